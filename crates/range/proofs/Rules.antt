@@ -1,0 +1,53 @@
+-- The number of a list of rules is 0 exactly where all hold, and is another number exactly where the first rule that fails has it.
+use Prim.Native.Nat.{ℕ, _<_}
+use mathlib.Core.Path.{_≡_, refl, ap, _∙_}
+use mathlib.Core.Logic.{_↔_}
+use mathlib.Core.Bool.{Bool, true, false, cond}
+use mathlib.Core.List.{List, [], _∷_, _++_, append-nil}
+use native.Mathlib.Omega.{arith}
+use Rattle.range.specs.Rules.{Rule, firstFailing, AllHold, Numbered, FirstFails}
+
+-- rules that hold are passed over
+passed : (rs later : List Rule) → AllHold rs → firstFailing (rs ++ later) ≡ firstFailing later
+passed [] later h = refl
+passed (r ∷ rs) later h = rw (h .0) (passed rs later (h .1))
+
+holds-first : (b : Bool) (m n : ℕ) → 0 < n → cond b m n ≡ 0 → (b ≡ true) × (m ≡ 0)
+holds-first true m n z e = (refl, e)
+holds-first false m n z e = absurd (omega arith)
+
+all-hold : (rs : List Rule) → Numbered rs → firstFailing rs ≡ 0 → AllHold rs
+all-hold [] z e = tt
+all-hold (r ∷ rs) z e =
+    let h = holds-first (r .holds) (firstFailing rs) (r .number) (z .0) e in
+    (h .0, all-hold rs (z .1) (h .1))
+
+pub all-exactly : (rs : List Rule) → Numbered rs → (firstFailing rs ≡ 0) ↔ AllHold rs
+all-exactly rs z = (all-hold rs z, λ h. rw append-nil at (passed rs [] h))
+
+-- one more rule in front
+fails-next : (r : Rule) (rs : List Rule) (n : ℕ) (t : Bool) → r .holds ≡ t → cond t (firstFailing rs) (r .number) ≡ n
+    → (firstFailing rs ≡ n → FirstFails rs n) → FirstFails (r ∷ rs) n
+fails-next r rs n true t e rest =
+    let f = rest e in
+    record {
+      before = r ∷ f .before;
+      failing = f .failing;
+      after = f .after;
+      split = ap (r ∷_) (f .split);
+      earlier = (t, f .earlier);
+      fails = f .fails;
+      numbered = f .numbered;
+    }
+fails-next r rs n false t e rest =
+    record { before = []; failing = r; after = rs; split = refl; earlier = tt; fails = t; numbered = e }
+
+fails-first : (rs : List Rule) (n : ℕ) → 0 < n → firstFailing rs ≡ n → FirstFails rs n
+fails-first [] n z e = absurd (omega arith)
+fails-first (r ∷ rs) n z e = fails-next r rs n (r .holds) refl e (fails-first rs n z)
+
+pub first-exactly : (rs : List Rule) (n : ℕ) → 0 < n → (firstFailing rs ≡ n) ↔ FirstFails rs n
+first-exactly rs n z = (
+  fails-first rs n z,
+  λ f. ap firstFailing (f .split) ∙ passed (f .before) (f .failing ∷ f .after) (f .earlier) ∙ rw (f .fails) (f .numbered),
+)

@@ -1,0 +1,37 @@
+-- Rules in the order they are tried: the first that fails gives the number.
+use Prim.Native.Nat.{ℕ, _<_}
+use mathlib.Core.Path.{_≡_}
+use mathlib.Core.Bool.{Bool, true, false, cond}
+use mathlib.Core.List.{List, [], _∷_, _++_}
+
+-- a rule: the number that is given when it fails, and whether it holds
+pub record Rule : Type 0 where
+  pub number : ℕ
+  pub holds : Bool
+
+abbrev pub rule : ℕ → Bool → Rule
+rule n b = record { number = n; holds = b }
+
+-- the number of the first rule that fails, 0 where all hold
+abbrev pub firstFailing : List Rule → ℕ
+firstFailing [] = 0
+firstFailing (r ∷ rs) = cond (r .holds) (firstFailing rs) (r .number)
+
+abbrev pub AllHold : List Rule → Type 0
+AllHold [] = Unit
+AllHold (r ∷ rs) = (r .holds ≡ true) × AllHold rs
+
+-- no rule has the number 0, which says that all hold
+abbrev pub Numbered : List Rule → Type 0
+Numbered [] = Unit
+Numbered (r ∷ rs) = (0 < r .number) × Numbered rs
+
+-- a rule with the number n fails, and all rules before it hold
+pub record FirstFails (rs : List Rule) (n : ℕ) : Type 0 where
+  pub before : List Rule
+  pub failing : Rule
+  pub after : List Rule
+  pub split : rs ≡ before ++ (failing ∷ after)
+  pub earlier : AllHold before
+  pub fails : failing .holds ≡ false
+  pub numbered : failing .number ≡ n

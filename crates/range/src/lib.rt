@@ -1,0 +1,57 @@
+// Ranges of physical memory, and the number of the first rule that fails.
+ghost use mathlib.Core.Path.{_≡_};
+ghost use mathlib.Core.Bool.{cond};
+ghost use Rattle.range.specs.Range.{insideOf, clearOf, endsBy};
+
+// `size` bytes from `base` on.
+pub struct Range {
+    pub base: u64,
+    pub size: u64,
+}
+
+// Whether a lies inside b.
+pub fn inside(a: Range, b: Range) -> bool
+    ensures { λ r. ⌜ r ≡ insideOf a b ⌝ }
+{
+    if a.base < b.base {
+        return false;
+    }
+    if b.size < a.size {
+        return false;
+    }
+    a.base - b.base <= b.size - a.size
+}
+
+// Whether a and b have no byte in common.
+pub fn clear(a: Range, b: Range) -> bool
+    ensures { λ r. ⌜ r ≡ clearOf a b ⌝ }
+{
+    if a.size == 0 {
+        return true;
+    }
+    if b.size == 0 {
+        return true;
+    }
+    if a.base < b.base {
+        a.size <= b.base - a.base
+    } else {
+        b.size <= a.base - b.base
+    }
+}
+
+// Whether a ends at or below a limit.
+pub fn ends_by(a: Range, limit: u64) -> bool
+    ensures { λ r. ⌜ r ≡ endsBy a limit ⌝ }
+{
+    if limit < a.size {
+        return false;
+    }
+    a.base <= limit - a.size
+}
+
+// The number of a rule that fails, or what the later rules give where it holds.
+pub fn unless(holds: bool, number: u32, later: u32) -> u32
+    ensures { λ r. ⌜ r ≡ cond holds later number ⌝ }
+{
+    if holds { later } else { number }
+}

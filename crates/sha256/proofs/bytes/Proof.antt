@@ -1,0 +1,78 @@
+-- The loop puts in one byte of the hash value at each turn.
+use borrow.Author.Needs.{needs}
+use lib.ListN.{length, take, length-set}
+use native.Mathlib.Omega.{arith}
+use mathlib.Core.Path.{_≡_, _∙_, refl, sym}
+use Prim.Native.Nat.{ℕ, _≤_, _-_, _*_}
+use lib.ListN.{length, take}
+use Rattle.sha256.specs.Message.{digestOf}
+use Rattle.sha256.proofs.Fill.{fill-step, fill-end}
+use Rattle.sha256.proofs.BigEndian.{length-digest, getD-digest}
+use Rattle.sha256.proofs.bytes.Statement.{statement}
+use Rattle.sha256.proofs.bytes.Tie as tie
+
+abbrev Inv-loop : tie.InvT-loop
+Inv-loop h d₀ i₀ d i = (i ≤ 32) × (length h ≡ 8) × (length d ≡ 32) × (take i d ≡ take i (digestOf h))
+
+abbrev μ-loop : tie.MeasureT-loop
+μ-loop h d₀ i₀ d i = 32 - i
+
+loop-holds : tie.Need-loop-holds Inv-loop μ-loop
+loop-holds c = (omega arith, search needs, refl, refl)
+
+mul-byte32 : tie.Need-mul-byte32 Inv-loop μ-loop
+mul-byte32 c = omega arith
+
+array-read-byte32 : tie.Need-array-read-byte32 Inv-loop μ-loop
+array-read-byte32 c = omega arith
+
+sub-byte32 : tie.Need-sub-byte32 Inv-loop μ-loop
+sub-byte32 c = omega arith
+
+byte32-requires : tie.Need-byte32-requires Inv-loop μ-loop
+byte32-requires c κs = omega arith
+
+array-write-d : tie.Need-array-write-d Inv-loop μ-loop
+array-write-d c = omega arith
+
+add-i : tie.Need-add-i Inv-loop μ-loop
+add-i c = omega arith
+
+loop-less : tie.Need-loop-less Inv-loop μ-loop
+loop-less c = omega arith
+
+loop-again : tie.Need-loop-again Inv-loop μ-loop
+loop-again c =
+    let l = c .before .before .loop in
+    let h = c .before .before .before .args .t1 in
+    let n = length-digest h in (
+      omega arith,
+      l .inv .1,
+      simp length-set (l .inv .2),
+      fill-step (l .d) (digestOf h) (l .i) (c .byte32 .result) (omega arith) (omega arith) (l .inv .3)
+          (c .byte32 .ensures ∙ sym (getD-digest h (l .i) (omega arith))),
+    )
+
+returns : tie.Need-returns Inv-loop μ-loop
+returns c =
+    let l = c .before .loop in
+    let h = c .before .before .args .t1 in
+    let n = length-digest h in
+    fill-end (l .d) (digestOf h) (l .i) (omega arith) (omega arith) (l .inv .3)
+
+pub bytes-spec : {M : Type 1} → statement M
+bytes-spec =
+    tie.close
+    (tie.spec
+    Inv-loop
+    μ-loop
+    loop-holds
+    mul-byte32
+    array-read-byte32
+    sub-byte32
+    byte32-requires
+    array-write-d
+    add-i
+    loop-less
+    loop-again
+    returns)

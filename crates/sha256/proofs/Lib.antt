@@ -5,3 +5,4 @@ pub mod Padding
 pub mod Schedule
 pub mod Hashing
 pub mod Parts
+pub mod Bitwise

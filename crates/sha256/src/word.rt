@@ -10,16 +10,18 @@ pub(crate) fn add(x: u32, y: u32) -> u32
     std::num::wrapping_add_u32(x, y)
 }
 
+// `Ch` with three operations: x chooses between y and z.
 pub(crate) fn ch(x: u32, y: u32, z: u32) -> u32
     ensures { λ r. ⌜ r ≡ Ch x y z ⌝ }
 {
-    (x & y) ^ (!x & z)
+    z ^ (x & (y ^ z))
 }
 
+// `Maj` with four operations, of which the next round needs one again: its y and z are x and y of this one.
 pub(crate) fn maj(x: u32, y: u32, z: u32) -> u32
     ensures { λ r. ⌜ r ≡ Maj x y z ⌝ }
 {
-    (x & y) ^ (x & z) ^ (y & z)
+    y ^ ((x ^ y) & (y ^ z))
 }
 
 // The functions that FIPS 180-4 writes with a capital sigma, and with a small one.

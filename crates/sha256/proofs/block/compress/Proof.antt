@@ -1,10 +1,9 @@
--- The loop runs four rounds at each turn, up to round 48; the last sixteen and the sum follow.
+-- The loop runs eight rounds at each turn, up to round 48; the last sixteen and the sum follow.
 use native.Mathlib.Omega.{arith}
 use mathlib.Core.Path.{_≡_, _∙_, ap, refl}
 use Prim.Native.Nat.{_%_, _-_, _≤_}
 use lib.ListN.{take, drop}
 use Rattle.sha256.specs.declared.block.Working.{Working}
-use Rattle.sha256.specs.declared.block.Window.{Window}
 use Rattle.sha256.specs.Constants.{K}
 use Rattle.sha256.specs.Block.{wordsOf, variables, sumOf, compressOf}
 use Rattle.sha256.specs.Window.{Before}
@@ -14,26 +13,29 @@ use Rattle.sha256.proofs.block.compress.Statement.{statement}
 use Rattle.sha256.proofs.block.compress.Tie as tie
 
 abbrev Inv-loop : tie.InvT-loop
-Inv-loop h s i k x₀ t₀ x t = (t ≤ 48) × (t % 4 ≡ 0) × (k ≡ K) × Before t (variables h) (wordsOf 16 (take 64 (drop i s))) x
+Inv-loop h s i k x₀ t₀ x t = (t ≤ 48) × (t % 8 ≡ 0) × (k ≡ K) × Before t (variables h) (wordsOf 16 (take 64 (drop i s))) x
 
 abbrev μ-loop : tie.MeasureT-loop
 μ-loop h s i k x₀ t₀ x t = 48 - t
 
+variables-requires : tie.Need-variables-requires Inv-loop μ-loop
+variables-requires c κs = omega arith
+
 load-requires : tie.Need-load-requires Inv-loop μ-loop
 load-requires c κs = omega arith
 
-variables-requires : tie.Need-variables-requires Inv-loop μ-loop
-variables-requires c κs = omega arith
+placed-requires : tie.Need-placed-requires Inv-loop μ-loop
+placed-requires c κs = omega arith
 
 loop-holds : tie.Need-loop-holds Inv-loop μ-loop
 unfolding K
 loop-holds c =
-    let a = c .before .before .before .before .args in
+    let a = c .before .before .before .before .before .args in
     let m = take 64 (drop (a .i) (a .s .now)) in (
       omega arith,
       refl,
       refl,
-      before-first (variables (a .h)) (c .variables .result) (wordsOf 16 m) (c .before .load .result) (length-words 16 m) (c .variables .ensures) (c .before .load .ensures),
+      before-first (variables (a .h)) _ (wordsOf 16 m) _ (length-words 16 m) (c .before .before .variables .ensures) (c .placed .ensures ∙ c .before .load .ensures),
     )
 
 turn-requires : tie.Need-turn-requires Inv-loop μ-loop
@@ -48,7 +50,7 @@ loop-less c = omega arith
 loop-again : tie.Need-loop-again Inv-loop μ-loop
 loop-again c =
     let l = c .before .before .loop in
-    let a = c .before .before .before .before .before .before .before .args in
+    let a = c .before .before .before .before .before .before .before .before .args in
     let m = take 64 (drop (a .i) (a .s .now)) in (
       omega arith,
       omega arith,
@@ -66,7 +68,7 @@ returns : tie.Need-returns Inv-loop μ-loop
 unfolding compressOf
 returns c =
     let l = c .before .before .before .loop in
-    let a = c .before .before .before .before .before .before .before .before .args in
+    let a = c .before .before .before .before .before .before .before .before .before .args in
     let m = wordsOf 16 (take 64 (drop (a .i) (a .s .now))) in
     let e : l .t ≡ 48 = omega arith in
     let b : Before 48 (variables (a .h)) m (l .x) = rw e at (l .inv .3) in
@@ -78,8 +80,9 @@ compress-spec =
     (tie.spec
     Inv-loop
     μ-loop
-    load-requires
     variables-requires
+    load-requires
+    placed-requires
     loop-holds
     turn-requires
     add-t

@@ -1,86 +1,167 @@
--- The loop runs one round more at each turn, with the word of its own number.
-use borrow.Author.Needs.{needs}
-use native.Mathlib.Omega.{arith}
-use mathlib.Core.Path.{_≡_, _∙_, ap, refl}
-use mathlib.Core.List.{List}
-use Prim.Native.Nat.{ℕ, _+_, _-_, _≤_}
-use lib.ListN.{length}
-use Rattle.sha256.specs.declared.block.Working.{Working}
-use Rattle.sha256.specs.Constants.{K}
-use Rattle.sha256.specs.Block.{schedule, rounds}
-use Rattle.sha256.specs.Window.{Before}
+-- Sixteen rounds, each with the word of its own number.
+use mathlib.Core.Path.{refl}
+use lib.Dec.{lit<}
+use Rattle.sha256.specs.Block.{schedule}
+use Rattle.sha256.specs.Window.{listOf}
 use Rattle.sha256.proofs.Schedule.{round-at}
+use borrow.Author.Needs.{needs}
 use Rattle.sha256.proofs.block.last.Statement.{statement}
 use Rattle.sha256.proofs.block.last.Tie as tie
 
-abbrev Inv-loop : tie.InvT-loop
-Inv-loop k w s₀ i₀ s i =
-    (i ≤ 16)
-    × (length w ≡ 16)
-    × (k ≡ K)
-    × ((v : Working) (m : List ℕ) → Before 48 v m (record { working = s₀; words = w }) → s ≡ rounds (48 + i) v (schedule 48 m))
+element-copy-out-round : tie.Need-element-copy-out-round
+element-copy-out-round c = search needs
 
-abbrev μ-loop : tie.MeasureT-loop
-μ-loop k w s₀ i₀ s i = 16 - i
+round-requires : tie.Need-round-requires
+round-requires c κs = search needs
 
-loop-holds : tie.Need-loop-holds Inv-loop μ-loop
-loop-holds c = (omega arith, search needs, c .before .before .pre, λ v m b. b .working)
+element-copy-out-round-2 : tie.Need-element-copy-out-round-2
+element-copy-out-round-2 c = search needs
 
-add-round : tie.Need-add-round Inv-loop μ-loop
-add-round c = omega arith
+round-requires-2 : tie.Need-round-requires-2
+round-requires-2 c κs = search needs
 
-mul-round : tie.Need-mul-round Inv-loop μ-loop
-mul-round c = omega arith
+element-copy-out-round-3 : tie.Need-element-copy-out-round-3
+element-copy-out-round-3 c = search needs
 
-element-copy-out-round : tie.Need-element-copy-out-round Inv-loop μ-loop
-element-copy-out-round c = omega arith
+round-requires-3 : tie.Need-round-requires-3
+round-requires-3 c κs = search needs
 
-mul-round-2 : tie.Need-mul-round-2 Inv-loop μ-loop
-mul-round-2 c = omega arith
+element-copy-out-round-4 : tie.Need-element-copy-out-round-4
+element-copy-out-round-4 c = search needs
 
-array-read-round : tie.Need-array-read-round Inv-loop μ-loop
-array-read-round c = omega arith
+round-requires-4 : tie.Need-round-requires-4
+round-requires-4 c κs = search needs
 
-round-requires : tie.Need-round-requires Inv-loop μ-loop
-round-requires c κs = omega arith
+element-copy-out-round-5 : tie.Need-element-copy-out-round-5
+element-copy-out-round-5 c = search needs
 
-add-i : tie.Need-add-i Inv-loop μ-loop
-add-i c = omega arith
+round-requires-5 : tie.Need-round-requires-5
+round-requires-5 c κs = search needs
 
-loop-less : tie.Need-loop-less Inv-loop μ-loop
-loop-less c = omega arith
+element-copy-out-round-6 : tie.Need-element-copy-out-round-6
+element-copy-out-round-6 c = search needs
 
-loop-again : tie.Need-loop-again Inv-loop μ-loop
-loop-again c =
-    let l = c .before .before .before .loop in
-    let a = c .before .before .before .before .before .before .args in (
-      omega arith,
-      l .inv .1,
-      l .inv .2,
-      λ v m b. round-at 48 (l .i) (48 + l .i) (48 + (l .i + 1)) v (schedule 48 m) (a .k .now) (a .x .words) (l .s) (c .round .result) refl (omega arith) (omega arith)
-          (l .inv .2) (b .words) (l .inv .3 v m b) (c .round .ensures),
-    )
+round-requires-6 : tie.Need-round-requires-6
+round-requires-6 c κs = search needs
 
-returns : tie.Need-returns Inv-loop μ-loop
-returns c v m b =
-    let l = c .before .loop in
-    let e : 48 + l .i ≡ 64 = omega arith in
-    l .inv .3 v m b ∙ ap (λ (n : ℕ). rounds n v (schedule 48 m)) e
+element-copy-out-round-7 : tie.Need-element-copy-out-round-7
+element-copy-out-round-7 c = search needs
+
+round-requires-7 : tie.Need-round-requires-7
+round-requires-7 c κs = search needs
+
+element-copy-out-round-8 : tie.Need-element-copy-out-round-8
+element-copy-out-round-8 c = search needs
+
+round-requires-8 : tie.Need-round-requires-8
+round-requires-8 c κs = search needs
+
+element-copy-out-round-9 : tie.Need-element-copy-out-round-9
+element-copy-out-round-9 c = search needs
+
+round-requires-9 : tie.Need-round-requires-9
+round-requires-9 c κs = search needs
+
+element-copy-out-round-10 : tie.Need-element-copy-out-round-10
+element-copy-out-round-10 c = search needs
+
+round-requires-10 : tie.Need-round-requires-10
+round-requires-10 c κs = search needs
+
+element-copy-out-round-11 : tie.Need-element-copy-out-round-11
+element-copy-out-round-11 c = search needs
+
+round-requires-11 : tie.Need-round-requires-11
+round-requires-11 c κs = search needs
+
+element-copy-out-round-12 : tie.Need-element-copy-out-round-12
+element-copy-out-round-12 c = search needs
+
+round-requires-12 : tie.Need-round-requires-12
+round-requires-12 c κs = search needs
+
+element-copy-out-round-13 : tie.Need-element-copy-out-round-13
+element-copy-out-round-13 c = search needs
+
+round-requires-13 : tie.Need-round-requires-13
+round-requires-13 c κs = search needs
+
+element-copy-out-round-14 : tie.Need-element-copy-out-round-14
+element-copy-out-round-14 c = search needs
+
+round-requires-14 : tie.Need-round-requires-14
+round-requires-14 c κs = search needs
+
+element-copy-out-round-15 : tie.Need-element-copy-out-round-15
+element-copy-out-round-15 c = search needs
+
+round-requires-15 : tie.Need-round-requires-15
+round-requires-15 c κs = search needs
+
+element-copy-out-round-16 : tie.Need-element-copy-out-round-16
+element-copy-out-round-16 c = search needs
+
+round-requires-16 : tie.Need-round-requires-16
+round-requires-16 c κs = search needs
+
+returns : tie.Need-returns
+returns c s m b =
+    let start = c .before .before .before .before .before .before .before .before .before .before .before .before .before .before .before .before .before .before .before .before .before .before .before .before .before .before .before .before .before .before .before .before .before .before in
+    let W = schedule 48 m in
+    let w = listOf (start .args .x .words) in
+    let k = start .args .k .now in
+    let table = start .pre in
+    let s1 = round-at 48 0 48 49 s W k w _ _ refl refl (lit< tt) table (b .words) (b .working) (c .before .before .before .before .before .before .before .before .before .before .before .before .before .before .before .before .before .before .before .before .before .before .before .before .before .before .before .before .before .before .round .ensures) in
+    let s2 = round-at 48 1 49 50 s W k w _ _ refl refl (lit< tt) table (b .words) s1 (c .before .before .before .before .before .before .before .before .before .before .before .before .before .before .before .before .before .before .before .before .before .before .before .before .before .before .before .before .round2 .ensures) in
+    let s3 = round-at 48 2 50 51 s W k w _ _ refl refl (lit< tt) table (b .words) s2 (c .before .before .before .before .before .before .before .before .before .before .before .before .before .before .before .before .before .before .before .before .before .before .before .before .before .before .round3 .ensures) in
+    let s4 = round-at 48 3 51 52 s W k w _ _ refl refl (lit< tt) table (b .words) s3 (c .before .before .before .before .before .before .before .before .before .before .before .before .before .before .before .before .before .before .before .before .before .before .before .before .round4 .ensures) in
+    let s5 = round-at 48 4 52 53 s W k w _ _ refl refl (lit< tt) table (b .words) s4 (c .before .before .before .before .before .before .before .before .before .before .before .before .before .before .before .before .before .before .before .before .before .before .round5 .ensures) in
+    let s6 = round-at 48 5 53 54 s W k w _ _ refl refl (lit< tt) table (b .words) s5 (c .before .before .before .before .before .before .before .before .before .before .before .before .before .before .before .before .before .before .before .before .round6 .ensures) in
+    let s7 = round-at 48 6 54 55 s W k w _ _ refl refl (lit< tt) table (b .words) s6 (c .before .before .before .before .before .before .before .before .before .before .before .before .before .before .before .before .before .before .round7 .ensures) in
+    let s8 = round-at 48 7 55 56 s W k w _ _ refl refl (lit< tt) table (b .words) s7 (c .before .before .before .before .before .before .before .before .before .before .before .before .before .before .before .before .round8 .ensures) in
+    let s9 = round-at 48 8 56 57 s W k w _ _ refl refl (lit< tt) table (b .words) s8 (c .before .before .before .before .before .before .before .before .before .before .before .before .before .before .round9 .ensures) in
+    let s10 = round-at 48 9 57 58 s W k w _ _ refl refl (lit< tt) table (b .words) s9 (c .before .before .before .before .before .before .before .before .before .before .before .before .round10 .ensures) in
+    let s11 = round-at 48 10 58 59 s W k w _ _ refl refl (lit< tt) table (b .words) s10 (c .before .before .before .before .before .before .before .before .before .before .round11 .ensures) in
+    let s12 = round-at 48 11 59 60 s W k w _ _ refl refl (lit< tt) table (b .words) s11 (c .before .before .before .before .before .before .before .before .round12 .ensures) in
+    let s13 = round-at 48 12 60 61 s W k w _ _ refl refl (lit< tt) table (b .words) s12 (c .before .before .before .before .before .before .round13 .ensures) in
+    let s14 = round-at 48 13 61 62 s W k w _ _ refl refl (lit< tt) table (b .words) s13 (c .before .before .before .before .round14 .ensures) in
+    let s15 = round-at 48 14 62 63 s W k w _ _ refl refl (lit< tt) table (b .words) s14 (c .before .before .round15 .ensures) in
+    round-at 48 15 63 64 s W k w _ _ refl refl (lit< tt) table (b .words) s15 (c .round16 .ensures)
 
 pub last-spec : {M : Type 1} → statement M
 last-spec =
     tie.close
     (tie.spec
-    Inv-loop
-    μ-loop
-    loop-holds
-    add-round
-    mul-round
     element-copy-out-round
-    mul-round-2
-    array-read-round
     round-requires
-    add-i
-    loop-less
-    loop-again
+    element-copy-out-round-2
+    round-requires-2
+    element-copy-out-round-3
+    round-requires-3
+    element-copy-out-round-4
+    round-requires-4
+    element-copy-out-round-5
+    round-requires-5
+    element-copy-out-round-6
+    round-requires-6
+    element-copy-out-round-7
+    round-requires-7
+    element-copy-out-round-8
+    round-requires-8
+    element-copy-out-round-9
+    round-requires-9
+    element-copy-out-round-10
+    round-requires-10
+    element-copy-out-round-11
+    round-requires-11
+    element-copy-out-round-12
+    round-requires-12
+    element-copy-out-round-13
+    round-requires-13
+    element-copy-out-round-14
+    round-requires-14
+    element-copy-out-round-15
+    round-requires-15
+    element-copy-out-round-16
+    round-requires-16
     returns)

@@ -1,0 +1,54 @@
+//! Times the proved digest against the plain one: 16 MiB, in parts of 4,096 bytes and in one piece. The two take turns in one
+//! process, and the best of all runs counts, so that what else the machine does hits both alike.
+//!
+//! With `--at-most R` it fails where the ratio of the times is above R.
+
+use digest_bench::{plain, proved};
+use std::time::{Duration, Instant};
+
+const SIZE: usize = 16 << 20;
+const RUNS: usize = 25;
+
+fn timed(digest: fn(&[u8], usize) -> [u8; 32], message: &[u8], part: usize) -> (Duration, [u8; 32]) {
+    let start = Instant::now();
+    let result = digest(message, part);
+    (start.elapsed(), result)
+}
+
+fn megabytes_a_second(time: Duration) -> f64 {
+    SIZE as f64 / 1e6 / time.as_secs_f64()
+}
+
+fn compare(name: &str, message: &[u8], part: usize) -> f64 {
+    let mut best = [Duration::MAX; 2];
+    for _ in 0..RUNS {
+        let (time, ours) = timed(proved::digest_in_parts, message, part);
+        best[0] = best[0].min(time);
+        let (time, theirs) = timed(plain::digest_in_parts, message, part);
+        best[1] = best[1].min(time);
+        assert_eq!(ours, theirs, "the two digests differ");
+    }
+    let ratio = best[0].as_secs_f64() / best[1].as_secs_f64();
+    println!(
+        "{name}: proved {:.1} MB/s, plain Rust {:.1} MB/s, time {ratio:.3} of Rust's (best of {RUNS} runs each)",
+        megabytes_a_second(best[0]),
+        megabytes_a_second(best[1]),
+    );
+    ratio
+}
+
+fn main() {
+    let words: Vec<String> = std::env::args().skip(1).collect();
+    let limit = match words.as_slice() {
+        [] => f64::INFINITY,
+        [flag, number] if flag == "--at-most" => number.parse().expect("a number follows --at-most"),
+        _ => panic!("usage: digest_bench [--at-most RATIO]"),
+    };
+    let message: Vec<u8> = (0..SIZE).map(|i| (i * 7 + i / 251) as u8).collect();
+    let in_parts = compare("16 MiB in parts of 4096 bytes", &message, 4096);
+    let whole = compare("16 MiB in one piece", &message, 0);
+    if in_parts.max(whole) > limit {
+        eprintln!("slower than {limit} times plain Rust");
+        std::process::exit(1);
+    }
+}

@@ -1,12 +1,11 @@
 -- The bytes of a number, the highest first, for every width.
 use mathlib.Core.Path.{_≡_, _∙_, ap, refl, sym}
-use mathlib.Core.List.{List, [], _∷_, _++_}
-use Prim.Native.Nat.{ℕ, zero, suc, _+_, _-_, _*_, _/_, _%_, _^_, _<_}
+use mathlib.Core.List.{List, [], _∷_}
+use Prim.Native.Nat.{ℕ, zero, suc, _-_, _*_, _/_, _%_, _^_, _<_}
 use native.Mathlib.Omega.{arith}
 use native.Mathlib.Nat.{pow-suc, not-suc-le-zero}
 use lib.ListN.{length, getD, length-append}
 use lib.Pow.{pow-add}
-use lib.Seq.{getD-append-add}
 use Rattle.sha256.specs.Message.{byteOf, bigEndian, digestOf}
 
 -- a byte is what a shift by its place leaves

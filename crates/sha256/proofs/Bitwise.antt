@@ -1,6 +1,6 @@
 -- Two bitwise functions of three words are the same where they are the same on single digits. So `Ch` and `Maj` may be worked
 -- out with fewer operations than FIPS 180-4 writes.
-use mathlib.Core.Path.{_≡_, _∙_, ap, ap₂, refl, sym}
+use mathlib.Core.Path.{_≡_, _∙_, ap₂, refl, sym}
 use Prim.Native.Nat.{ℕ, zero, suc, _-_, _*_, _/_, _%_, _^_, _<_}
 use native.Mathlib.Nat.{pow-suc, not-suc-le-zero, le-of-suc-le-suc}
 use native.Mathlib.Omega.{arith}

@@ -1,7 +1,7 @@
 -- An array that a loop fills from its front with the elements of a list.
-use mathlib.Core.Path.{_≡_, _∙_, ap, ap₂, sym}
+use mathlib.Core.Path.{_≡_, _∙_, ap₂, sym}
 use mathlib.Core.List.{List, [], _∷_, _++_}
-use Prim.Native.Nat.{ℕ, suc, _+_, _<_}
+use Prim.Native.Nat.{ℕ, _+_, _<_}
 use native.Mathlib.Numerals.{add-one}
 use native.Mathlib.Nat.{le-of-eq}
 use lib.ListN.{length, take, set, getD}

@@ -2,7 +2,7 @@
 -- digest of the message.
 use mathlib.Core.Path.{_≡_, _∙_, ap, ap₂, refl, sym}
 use mathlib.Core.List.{List, [], _++_}
-use Prim.Native.Nat.{ℕ, zero, suc, _+_, _-_, _*_, _/_, _%_, _^_, _≤_}
+use Prim.Native.Nat.{ℕ, zero, suc, _+_, _*_, _/_, _%_, _^_, _≤_}
 use native.Mathlib.Nat.{zero-add, suc-add, mod-add-mod}
 use native.Mathlib.Omega.{arith}
 use lib.ListN.{length, drop, take, length-append, length-drop}
@@ -11,7 +11,7 @@ use Rattle.sha256.specs.declared.Running.{Running}
 use Rattle.sha256.specs.Constants.{H0}
 use Rattle.sha256.specs.Block.{compressOf}
 use Rattle.sha256.specs.Message.{hash, hashBlocks, padding, digestOf, sha256}
-use Rattle.sha256.specs.State.{pending, remainder, started, Absorbed, finishOf, Holds}
+use Rattle.sha256.specs.State.{remainder, started, Absorbed, finishOf, Holds}
 use Rattle.sha256.proofs.Padding.{padding-mod}
 
 -- blocks do not depend on what comes behind them

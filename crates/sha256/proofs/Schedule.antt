@@ -6,7 +6,7 @@ use Prim.Native.Nat.{ℕ, zero, suc, _+_, _-_, _<_, _≤_}
 use native.Mathlib.Nat.{add-zero, add-suc}
 use native.Mathlib.Numerals.{add-one}
 use native.Mathlib.Omega.{arith}
-use lib.ListN.{length, getD, take, drop, length-append, List·getD-append}
+use lib.ListN.{length, take, drop, length-append, List·getD-append}
 use lib.Seq.{drop-cons, getD-append-seam, getD-take, getD-drop, take-length, take-append-le}
 use Rattle.sha256.specs.declared.block.Working.{Working}
 use Rattle.sha256.specs.Words.{_⊞_, σ₀, σ₁}

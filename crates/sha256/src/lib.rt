@@ -5,14 +5,11 @@ mod word;
 
 use crate::constants::H0;
 ghost use mathlib.Core.Path.{_≡_};
-ghost use mathlib.Core.List.{List};
-ghost use Prim.Native.Nat.{ℕ, _+_, _*_, _≤_, _%_, _-_};
+ghost use Prim.Native.Nat.{_+_, _*_, _≤_, _%_, _-_};
 ghost use lib.ListN.{length, take, drop};
 ghost use lib.Seq.{paste};
 ghost use Rattle.sha256.specs.Message.{hash, padding, zeros, digestOf, sha256};
 ghost use Rattle.sha256.specs.State.{started, Absorbed, finishOf};
-
-const BLOCK: usize = 64;
 
 // A digest of which a part was worked out. Every value is a state.
 pub struct Running {
@@ -69,7 +66,7 @@ pub fn absorb(s: Running, part: &[u8]) -> Running
 {
     let fill = (s.total % 64) as usize;
     let total = std::num::wrapping_add_u64(s.total, part.len() as u64);
-    let room = BLOCK - fill;
+    let room = 64 - fill;
     let block = s.block;
     let words = s.words;
     if part.len() < room {

@@ -1,5 +1,5 @@
 -- The state that has absorbed the whole message gives its digest.
-use mathlib.Core.Path.{_≡_, _∙_, ap, sym}
+use mathlib.Core.Path.{_∙_}
 use mathlib.Core.List.{[]}
 use Rattle.sha256.specs.State.{Holds}
 use Rattle.sha256.proofs.Parts.{start-holds, absorb-holds, finish-holds}

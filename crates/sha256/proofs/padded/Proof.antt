@@ -1,7 +1,7 @@
 -- The loop puts in one byte of the length at each turn, behind 0x80 and the zeros.
 use native.Mathlib.Omega.{arith}
 use mathlib.Core.List.{List, _∷_}
-use mathlib.Core.Path.{_≡_, _∙_, ap, ap₂, refl, sym}
+use mathlib.Core.Path.{_≡_, _∙_, ap, ap₂, sym}
 use Prim.Native.Nat.{ℕ, _≤_, _-_, _+_, _*_, _%_, _^_}
 use native.Mathlib.Numerals.{add-one}
 use lib.ListN.{length, set, take, replicate}

@@ -1,4 +1,4 @@
--- Sixteen rounds, each with the word of its own number.
+-- Sixteen rounds, each with the word of its own number. p1 to p16 are what is known after each.
 use mathlib.Core.Path.{refl}
 use lib.Dec.{lit<}
 use Rattle.sha256.specs.Block.{schedule}
@@ -106,27 +106,43 @@ round-requires-16 c κs = search needs
 
 returns : tie.Need-returns
 returns c s m b =
-    let start = c .before .before .before .before .before .before .before .before .before .before .before .before .before .before .before .before .before .before .before .before .before .before .before .before .before .before .before .before .before .before .before .before .before .before in
+    let p16 = c in
+    let p15 = p16 .before .before in
+    let p14 = p15 .before .before in
+    let p13 = p14 .before .before in
+    let p12 = p13 .before .before in
+    let p11 = p12 .before .before in
+    let p10 = p11 .before .before in
+    let p9 = p10 .before .before in
+    let p8 = p9 .before .before in
+    let p7 = p8 .before .before in
+    let p6 = p7 .before .before in
+    let p5 = p6 .before .before in
+    let p4 = p5 .before .before in
+    let p3 = p4 .before .before in
+    let p2 = p3 .before .before in
+    let p1 = p2 .before .before in
+    let start = p1 .before .before .before .before in
     let W = schedule 48 m in
     let w = listOf (start .args .x .words) in
     let k = start .args .k .now in
     let table = start .pre in
-    let s1 = round-at 48 0 48 49 s W k w _ _ refl refl (lit< tt) table (b .words) (b .working) (c .before .before .before .before .before .before .before .before .before .before .before .before .before .before .before .before .before .before .before .before .before .before .before .before .before .before .before .before .before .before .round .ensures) in
-    let s2 = round-at 48 1 49 50 s W k w _ _ refl refl (lit< tt) table (b .words) s1 (c .before .before .before .before .before .before .before .before .before .before .before .before .before .before .before .before .before .before .before .before .before .before .before .before .before .before .before .before .round2 .ensures) in
-    let s3 = round-at 48 2 50 51 s W k w _ _ refl refl (lit< tt) table (b .words) s2 (c .before .before .before .before .before .before .before .before .before .before .before .before .before .before .before .before .before .before .before .before .before .before .before .before .before .before .round3 .ensures) in
-    let s4 = round-at 48 3 51 52 s W k w _ _ refl refl (lit< tt) table (b .words) s3 (c .before .before .before .before .before .before .before .before .before .before .before .before .before .before .before .before .before .before .before .before .before .before .before .before .round4 .ensures) in
-    let s5 = round-at 48 4 52 53 s W k w _ _ refl refl (lit< tt) table (b .words) s4 (c .before .before .before .before .before .before .before .before .before .before .before .before .before .before .before .before .before .before .before .before .before .before .round5 .ensures) in
-    let s6 = round-at 48 5 53 54 s W k w _ _ refl refl (lit< tt) table (b .words) s5 (c .before .before .before .before .before .before .before .before .before .before .before .before .before .before .before .before .before .before .before .before .round6 .ensures) in
-    let s7 = round-at 48 6 54 55 s W k w _ _ refl refl (lit< tt) table (b .words) s6 (c .before .before .before .before .before .before .before .before .before .before .before .before .before .before .before .before .before .before .round7 .ensures) in
-    let s8 = round-at 48 7 55 56 s W k w _ _ refl refl (lit< tt) table (b .words) s7 (c .before .before .before .before .before .before .before .before .before .before .before .before .before .before .before .before .round8 .ensures) in
-    let s9 = round-at 48 8 56 57 s W k w _ _ refl refl (lit< tt) table (b .words) s8 (c .before .before .before .before .before .before .before .before .before .before .before .before .before .before .round9 .ensures) in
-    let s10 = round-at 48 9 57 58 s W k w _ _ refl refl (lit< tt) table (b .words) s9 (c .before .before .before .before .before .before .before .before .before .before .before .before .round10 .ensures) in
-    let s11 = round-at 48 10 58 59 s W k w _ _ refl refl (lit< tt) table (b .words) s10 (c .before .before .before .before .before .before .before .before .before .before .round11 .ensures) in
-    let s12 = round-at 48 11 59 60 s W k w _ _ refl refl (lit< tt) table (b .words) s11 (c .before .before .before .before .before .before .before .before .round12 .ensures) in
-    let s13 = round-at 48 12 60 61 s W k w _ _ refl refl (lit< tt) table (b .words) s12 (c .before .before .before .before .before .before .round13 .ensures) in
-    let s14 = round-at 48 13 61 62 s W k w _ _ refl refl (lit< tt) table (b .words) s13 (c .before .before .before .before .round14 .ensures) in
-    let s15 = round-at 48 14 62 63 s W k w _ _ refl refl (lit< tt) table (b .words) s14 (c .before .before .round15 .ensures) in
-    round-at 48 15 63 64 s W k w _ _ refl refl (lit< tt) table (b .words) s15 (c .round16 .ensures)
+    let s1 = round-at 48 0 48 49 s W k w _ _ refl refl (lit< tt) table (b .words) (b .working) (p1 .round .ensures) in
+    let s2 = round-at 48 1 49 50 s W k w _ _ refl refl (lit< tt) table (b .words) s1 (p2 .round2 .ensures) in
+    let s3 = round-at 48 2 50 51 s W k w _ _ refl refl (lit< tt) table (b .words) s2 (p3 .round3 .ensures) in
+    let s4 = round-at 48 3 51 52 s W k w _ _ refl refl (lit< tt) table (b .words) s3 (p4 .round4 .ensures) in
+    let s5 = round-at 48 4 52 53 s W k w _ _ refl refl (lit< tt) table (b .words) s4 (p5 .round5 .ensures) in
+    let s6 = round-at 48 5 53 54 s W k w _ _ refl refl (lit< tt) table (b .words) s5 (p6 .round6 .ensures) in
+    let s7 = round-at 48 6 54 55 s W k w _ _ refl refl (lit< tt) table (b .words) s6 (p7 .round7 .ensures) in
+    let s8 = round-at 48 7 55 56 s W k w _ _ refl refl (lit< tt) table (b .words) s7 (p8 .round8 .ensures) in
+    let s9 = round-at 48 8 56 57 s W k w _ _ refl refl (lit< tt) table (b .words) s8 (p9 .round9 .ensures) in
+    let s10 = round-at 48 9 57 58 s W k w _ _ refl refl (lit< tt) table (b .words) s9 (p10 .round10 .ensures) in
+    let s11 = round-at 48 10 58 59 s W k w _ _ refl refl (lit< tt) table (b .words) s10 (p11 .round11 .ensures) in
+    let s12 = round-at 48 11 59 60 s W k w _ _ refl refl (lit< tt) table (b .words) s11 (p12 .round12 .ensures) in
+    let s13 = round-at 48 12 60 61 s W k w _ _ refl refl (lit< tt) table (b .words) s12 (p13 .round13 .ensures) in
+    let s14 = round-at 48 13 61 62 s W k w _ _ refl refl (lit< tt) table (b .words) s13 (p14 .round14 .ensures) in
+    let s15 = round-at 48 14 62 63 s W k w _ _ refl refl (lit< tt) table (b .words) s14 (p15 .round15 .ensures) in
+    round-at 48 15 63 64 s W k w _ _ refl refl (lit< tt) table (b .words) s15 (p16 .round16 .ensures)
 
 pub last-spec : {M : Type 1} → statement M
 last-spec =

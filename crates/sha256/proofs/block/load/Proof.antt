@@ -1,8 +1,8 @@
 -- The loop puts in one word of the block at each turn.
 use lib.ListN.{length, take, drop, length-set}
 use native.Mathlib.Omega.{arith}
-use mathlib.Core.Path.{_≡_, _∙_, refl, sym}
-use Prim.Native.Nat.{ℕ, _≤_, _-_, _*_}
+use mathlib.Core.Path.{_≡_, _∙_, refl}
+use Prim.Native.Nat.{_≤_, _-_}
 use lib.ListN.{length, take, drop}
 use Rattle.sha256.specs.Block.{wordsOf}
 use Rattle.sha256.proofs.Fill.{fill-step, fill-end}

@@ -1,4 +1,5 @@
--- Eight rounds, each with the word of its own number, and the window moved on by eight.
+-- Eight rounds, each with the word of its own number, and the window moved on by eight. p1 to p8 are what is known after each
+-- round and its new word.
 use native.Mathlib.Omega.{arith}
 use mathlib.Core.Path.{refl}
 use Prim.Native.Nat.{_+_, _≤_}
@@ -130,32 +131,34 @@ extended-requires-8 c κs = search needs
 
 returns : tie.Need-returns
 returns c s m l b =
-    let start = c .before .before .before .before .before .before .before .before .before .before .before .before .before .before .before .before .before .before .before .before .before .before .before .before .before .before in
+    let p8 = c in
+    let p7 = p8 .before .before .before in
+    let p6 = p7 .before .before .before in
+    let p5 = p6 .before .before .before in
+    let p4 = p5 .before .before .before in
+    let p3 = p4 .before .before .before in
+    let p2 = p3 .before .before .before in
+    let p1 = p2 .before .before .before in
+    let start = p1 .before .before .before .before .before in
     let t = start .args .t in
     let W = schedule 48 m in
     let w = listOf (start .args .x .words) in
     let k = start .args .k .now in
     let table = start .pre .1 in
     let long : t + 24 ≤ length W = omega (arith, length-schedule 48 m, start .pre .0) in
-    let s1 = round-at t 0 t (t + 1) s W k w _ _ (omega arith) refl (lit< tt) table (b .words) (b .working) (c .before .before .before .before .before .before .before .before .before .before .before .before .before .before .before .before .before .before .before .before .before .before .round .ensures) in
-    let s2 = round-at t 1 (t + 1) (t + 2) s W k w _ _ refl (omega arith) (lit< tt) table (b .words) s1 (c .before .before .before .before .before .before .before .before .before .before .before .before .before .before .before .before .before .before .before .round2 .ensures) in
-    let s3 = round-at t 2 (t + 2) (t + 3) s W k w _ _ refl (omega arith) (lit< tt) table (b .words) s2 (c .before .before .before .before .before .before .before .before .before .before .before .before .before .before .before .before .round3 .ensures) in
-    let s4 = round-at t 3 (t + 3) (t + 4) s W k w _ _ refl (omega arith) (lit< tt) table (b .words) s3 (c .before .before .before .before .before .before .before .before .before .before .before .before .before .round4 .ensures) in
-    let s5 = round-at t 4 (t + 4) (t + 5) s W k w _ _ refl (omega arith) (lit< tt) table (b .words) s4 (c .before .before .before .before .before .before .before .before .before .before .round5 .ensures) in
-    let s6 = round-at t 5 (t + 5) (t + 6) s W k w _ _ refl (omega arith) (lit< tt) table (b .words) s5 (c .before .before .before .before .before .before .before .round6 .ensures) in
-    let s7 = round-at t 6 (t + 6) (t + 7) s W k w _ _ refl (omega arith) (lit< tt) table (b .words) s6 (c .before .before .before .before .round7 .ensures) in
+    let s1 = round-at t 0 t (t + 1) s W k w _ _ (omega arith) refl (lit< tt) table (b .words) (b .working) (p1 .before .round .ensures) in
+    let s2 = round-at t 1 (t + 1) (t + 2) s W k w _ _ refl (omega arith) (lit< tt) table (b .words) s1 (p2 .before .round2 .ensures) in
+    let s3 = round-at t 2 (t + 2) (t + 3) s W k w _ _ refl (omega arith) (lit< tt) table (b .words) s2 (p3 .before .round3 .ensures) in
+    let s4 = round-at t 3 (t + 3) (t + 4) s W k w _ _ refl (omega arith) (lit< tt) table (b .words) s3 (p4 .before .round4 .ensures) in
+    let s5 = round-at t 4 (t + 4) (t + 5) s W k w _ _ refl (omega arith) (lit< tt) table (b .words) s4 (p5 .before .round5 .ensures) in
+    let s6 = round-at t 5 (t + 5) (t + 6) s W k w _ _ refl (omega arith) (lit< tt) table (b .words) s5 (p6 .before .round6 .ensures) in
+    let s7 = round-at t 6 (t + 6) (t + 7) s W k w _ _ refl (omega arith) (lit< tt) table (b .words) s6 (p7 .before .round7 .ensures) in
     record {
-      working = round-at t 7 (t + 7) (t + 8) s W k w _ _ refl (omega arith) (lit< tt) table (b .words) s7 (c .before .round8 .ensures);
+      working = round-at t 7 (t + 7) (t + 8) s W k w _ _ refl (omega arith) (lit< tt) table (b .words) s7 (p8 .before .round8 .ensures);
       words =
           window W (start .args .x .words) t _ _ _ _ _ _ _ _ long (λ j lt. word 48 j m l (omega (arith, start .pre .0))) (b .words)
-          (c .before .before .before .before .before .before .before .before .before .before .before .before .before .before .before .before .before .before .before .before .before .extended .ensures)
-          (c .before .before .before .before .before .before .before .before .before .before .before .before .before .before .before .before .before .before .extended2 .ensures)
-          (c .before .before .before .before .before .before .before .before .before .before .before .before .before .before .before .extended3 .ensures)
-          (c .before .before .before .before .before .before .before .before .before .before .before .before .extended4 .ensures)
-          (c .before .before .before .before .before .before .before .before .before .extended5 .ensures)
-          (c .before .before .before .before .before .before .extended6 .ensures)
-          (c .before .before .before .extended7 .ensures)
-          (c .extended8 .ensures);
+          (p1 .extended .ensures) (p2 .extended2 .ensures) (p3 .extended3 .ensures) (p4 .extended4 .ensures)
+          (p5 .extended5 .ensures) (p6 .extended6 .ensures) (p7 .extended7 .ensures) (p8 .extended8 .ensures);
     }
 
 pub turn-spec : {M : Type 1} → statement M

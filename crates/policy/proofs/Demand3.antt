@@ -1,0 +1,84 @@
+-- Demand 3: `demand3`. The reading is that with which the reader accepts the string; the grammar makes the string from it alone, and each answer shows its part.
+use Prim.Native.Nat.{ℕ, _+_, _≤_}
+use native.Mathlib.Omega.{arith}
+use mathlib.Core.Path.{_≡_, refl, sym, _∙_, subst}
+use mathlib.Core.Logic.{⊎-elim}
+use mathlib.Core.Bool.{Bool, true, false, cond, and-eq-true-iff}
+use mathlib.Core.List.{List}
+use mathlib.Core.Option.{Option, some, none}
+use lib.ListN.{length, getElem?}
+use borrow.Author.Tests.{leb-true}
+use Rattle.field.specs.Number.{Bytes}
+use Rattle.policy.specs.declared.Answers.{Answers}
+use Rattle.policy.specs.declared.FileAnswer.the-variants.{WrongSize, NotOfGrammar}
+use Rattle.policy.specs.Grammar.{listBytes, Element, PolicyList, Reading, Makes}
+use Rattle.policy.specs.Decode.{accepted}
+use Rattle.policy.specs.Answers.{sized, fileShown, elementIn, place, listAnswer, keyAnswer, signatureAnswer, elementAnswer}
+use Rattle.policy.specs.Demand3.{Demand3, Answered, Says, Shows, answersOf, numberOf, countOf, seenElement}
+use Rattle.policy.proofs.Decoding.{unique}
+use Rattle.policy.proofs.Places.{accepted-sound, accepted-complete, list-at, element-at}
+use Rattle.policy.proofs.Seen.{list-seen, key-seen, signature-seen, element-seen}
+
+inside : (s : List ℕ) → sized s ≡ true → (36 ≤ length s) × (length s ≤ 65536)
+inside s e = let p = and-eq-true-iff _ _ .0 e in (leb-true _ _ (p .0), leb-true _ _ (p .1))
+
+says : (s : List ℕ) → Bytes s → Says s (accepted s)
+says s b = go (accepted s) refl
+  where
+    go : (o : Option Reading) → accepted s ≡ o → Says s (accepted s)
+    go none q =
+        rw q (record { made = λ h r m. (let e : some r ≡ none = sym (accepted-complete r s m h) ∙ q in let z : _≡_ {A = ℕ} 0 1 = cc in omega arith); outside = λ e. refl })
+    go (some r) q =
+        let w = accepted-sound s r b q in
+        rw q (record { made = λ h. (w .0, λ r′ m. unique r′ r s m (w .0)); outside = λ u. absurd (⊎-elim (λ l. omega (arith, inside s (w .1) .0)) (λ l. omega (arith, inside s (w .1) .1)) u) })
+
+-- a refused string has no number but 26 and 27, and no lists
+refused-number : (x : Bool) → (numberOf (cond x NotOfGrammar WrongSize) ≡ cond x 27 26) × (countOf (cond x NotOfGrammar WrongSize) ≡ 0)
+refused-number true = (refl, refl)
+refused-number false = (refl, refl)
+
+shows-none : (s : List ℕ) (i j : ℕ) → Shows s none i j (answersOf s none i j)
+shows-none s i j =
+    record { number = refused-number (sized s) .0; count = refused-number (sized s) .1; list = refl; key = refl; signature = refl; element = refl; places = refl }
+
+-- the parts of a list that is there or not
+module _ (r : Reading) (s : List ℕ) (m : Makes r s) (i j : ℕ) where
+  abbrev at : ℕ
+  at = place listBytes 36 (r .lists) i
+
+  element-of : (l : PolicyList) → getElem? (r .lists) i ≡ some l → (o : Option Element) → getElem? (l .elements) j ≡ o → seenElement s (elementIn (at + 8) (l .elements) j) ≡ o
+  element-of l q none h = rw h
+  element-of l q (some e) h = rw h (element-seen s _ e (element-at s at l (list-at r s m i l q) j e h))
+
+  shows-some : (o : Option PolicyList) → getElem? (r .lists) i ≡ o → Shows s (some r) i j (answersOf s (some r) i j)
+  shows-some none q =
+      record { number = refl; count = sym (m .valid .counted); list = rw q; key = rw q; signature = rw q; element = rw q; places = refl }
+  shows-some (some l) q =
+      let here = list-at r s m i l q in
+      record {
+        number = refl;
+        count = sym (m .valid .counted);
+        list = rw q (list-seen s at l here);
+        key = rw q (key-seen s at l here);
+        signature = rw q (signature-seen s at l here);
+        element = rw q (element-of l q (getElem? (l .elements) j) refl);
+        places = refl;
+      }
+
+shows : (s : List ℕ) → Bytes s → (i j : ℕ) → Shows s (accepted s) i j (answersOf s (accepted s) i j)
+shows s b i j = go (accepted s) refl
+  where
+    go : (o : Option Reading) → accepted s ≡ o → Shows s (accepted s) i j (answersOf s (accepted s) i j)
+    go none q = rw q (shows-none s i j)
+    go (some r) q = rw q (shows-some r s (accepted-sound s r b q .0) i j (getElem? (r .lists) i) refl)
+
+pub demand3 : Demand3
+demand3 s b = (accepted s, says s b, shows s b)
+
+-- the answers of one call, each as its own contract has it
+pub answered : (s : List ℕ) → Bytes s → (i j : ℕ) (a : Answers) → a .file ≡ fileShown s (accepted s) → a .list ≡ listAnswer (accepted s) i → a .key ≡ keyAnswer (accepted s) i
+    → a .signature ≡ signatureAnswer (accepted s) i → a .element ≡ elementAnswer (accepted s) i j → Answered s i j a
+answered s b i j a e₁ e₂ e₃ e₄ e₅ =
+    let (o, p, q) = demand3 s b in
+    let e : answersOf s (accepted s) i j ≡ a = λ k. record { file = sym e₁ k; list = sym e₂ k; key = sym e₃ k; signature = sym e₄ k; element = sym e₅ k } in
+    (o, p, subst (Shows s o i j) e (q i j))

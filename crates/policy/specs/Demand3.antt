@@ -1,0 +1,155 @@
+-- Demand 3, as one statement about a string and every number asked: `Demand3`, which proofs/Demand3.antt proves as `demand3`.
+-- Each answer is looked at through the string, by cases; what is then seen is that part of the one reading from which the grammar makes the string,
+-- and nothing exactly where that reading has no such part, as for every string that is refused.
+use Prim.Native.Nat.{ℕ, zero, suc, _≤_, _<_}
+use mathlib.Core.Path.{_≡_}
+use mathlib.Core.Logic.{_⊎_}
+use mathlib.Core.Bool.{cond}
+use mathlib.Core.List.{List, [], _∷_, flatMap}
+use mathlib.Core.Option.{Option, some, none, Option·map}
+use lib.ListN.{length, take, drop, getElem?}
+use Rattle.field.specs.Number.{Bytes}
+use Rattle.policy.specs.declared.Answers.{Answers}
+use Rattle.policy.specs.declared.FileAnswer.{FileAnswer}
+use Rattle.policy.specs.declared.FileAnswer.the-variants.{Accepted, WrongSize, NotOfGrammar}
+use Rattle.policy.specs.declared.ListAnswer.{ListAnswer}
+use Rattle.policy.specs.declared.ListAnswer.the-variants as lists
+use Rattle.policy.specs.declared.PartAnswer.{PartAnswer}
+use Rattle.policy.specs.declared.PartAnswer.the-variants as parts
+use Rattle.policy.specs.declared.ElementAnswer.{ElementAnswer}
+use Rattle.policy.specs.declared.ElementAnswer.the-variants.{Launch, Custom, Unjudged, Refused}
+use Rattle.policy.specs.Grammar.{Element, elementBytes, digestLength, Signature, Signing, PolicyList, listBytes, Reading, Makes}
+use Rattle.policy.specs.Grammar as Grammar
+use Rattle.policy.specs.Answers.{sized, fileShown, listsIn, elementsIn, listAnswer, keyAnswer, signatureAnswer, elementAnswer}
+use Rattle.policy.specs.Decode.{accepted}
+use Rattle.policy.specs.Parts.{partAt}
+
+-- WHAT AN ANSWER SHOWS
+
+-- the number and the list count of a string
+abbrev pub numberOf : FileAnswer → ℕ
+numberOf (Accepted n) = 0
+numberOf WrongSize = 26
+numberOf NotOfGrammar = 27
+
+abbrev pub countOf : FileAnswer → ℕ
+countOf (Accepted n) = n
+countOf WrongSize = 0
+countOf NotOfGrammar = 0
+
+-- a list: all its bytes, and every field, its elements as bytes; an unsigned list has the algorithm 0x0010 and a signed one 0x0014
+pub record ListPart : Type 0 where
+  pub whole : List ℕ
+  pub version : ℕ
+  pub signatureAlgorithm : ℕ
+  pub elementsSize : ℕ
+  pub elements : List ℕ
+  pub signing : Signing
+
+abbrev pub seenList : List ℕ → ListAnswer → Option ListPart
+seenList s (lists.Unsigned start size version es n) =
+    some (record { whole = partAt s start size; version = version; signatureAlgorithm = 0x0010; elementsSize = n; elements = partAt s es n; signing = Grammar.unsigned })
+seenList s (lists.Signed start size version es n c k key signature) =
+    some (record {
+      whole = partAt s start size;
+      version = version;
+      signatureAlgorithm = 0x0014;
+      elementsSize = n;
+      elements = partAt s es n;
+      signing = Grammar.signed (record { counter = c; keySize = k; key = partAt s key k; signature = partAt s signature k });
+    })
+seenList s lists.Absent = none
+
+-- a key or a signature: its bytes
+abbrev pub seenPart : List ℕ → PartAnswer → Option (List ℕ)
+seenPart s (parts.At start len) = some (partAt s start len)
+seenPart s parts.Absent = none
+
+-- an element: every field; a launch element has type 0x10 and a custom one type 3; the body is the bytes after the first 12, and the digests of a
+-- launch element are those after 6 more, cut into pieces of the algorithm's length
+unfoldable pub pieces : ℕ → ℕ → List ℕ → List (List ℕ)
+pieces zero k b = []
+pieces (suc n) k b = take k b ∷ pieces n k (drop k b)
+
+abbrev pub seenElement : List ℕ → ElementAnswer → Option Element
+seenElement s (Launch start size control m v a n) =
+    some (record {
+      size = size;
+      type = 0x10;
+      control = control;
+      body = Grammar.launch (record { sinitMinVersion = m; reserved = v; hashAlg = a; count = n; digests = pieces n (digestLength a) (drop 18 (partAt s start size)) });
+    })
+seenElement s (Custom start size control) =
+    some (record { size = size; type = 3; control = control; body = Grammar.other (drop 12 (partAt s start size)) })
+seenElement s (Unjudged start size type control) =
+    some (record { size = size; type = type; control = control; body = Grammar.other (drop 12 (partAt s start size)) })
+seenElement s Refused = none
+
+-- WHAT A READING HAS
+
+-- a list, with its elements as the bytes that they make
+abbrev pub listPart : PolicyList → ListPart
+listPart l =
+    record {
+      whole = listBytes l;
+      version = l .version;
+      signatureAlgorithm = l .signatureAlgorithm;
+      elementsSize = l .elementsSize;
+      elements = flatMap elementBytes (l .elements);
+      signing = l .signing;
+    }
+
+-- the key and the signature of a list that is there and signed
+abbrev pub signatureIn : Signing → Option Signature
+signatureIn Grammar.unsigned = none
+signatureIn (Grammar.signed g) = some g
+
+abbrev pub signatureOf : Option PolicyList → Option Signature
+signatureOf none = none
+signatureOf (some l) = signatureIn (l .signing)
+
+-- THE STATEMENT
+
+-- the grammar makes the string from the one reading that is there, or from none
+abbrev pub MadeFrom : List ℕ → Option Reading → Type 0
+MadeFrom s none = (r : Reading) → Makes r s → ⊥
+MadeFrom s (some r) = Makes r s × ((r′ : Reading) → Makes r′ s → r′ ≡ r)
+
+-- the reading that a string of up to 65,536 bytes has; a string outside 36 to 65,536 bytes is refused
+pub record Says (s : List ℕ) (o : Option Reading) : Type 0 where
+  pub made : length s ≤ 65536 → MadeFrom s o
+  pub outside : (length s < 36) ⊎ (65536 < length s) → o ≡ none
+
+-- "26 for a string outside 36 to 65,536 bytes, else 27 or the reading"
+abbrev pub numberFor : List ℕ → Option Reading → ℕ
+numberFor s none = cond (sized s) 27 26
+numberFor s (some r) = 0
+
+-- what is answered where o is the reading: in each part the offsets at which it stands
+abbrev pub answersOf : List ℕ → Option Reading → ℕ → ℕ → Answers
+answersOf s o i j =
+    record {
+      file = fileShown s o;
+      list = listAnswer o i;
+      key = keyAnswer o i;
+      signature = signatureAnswer o i;
+      element = elementAnswer o i j;
+    }
+
+-- the answers for the list number i and the element number j of it show the parts of the reading o, where they stand
+pub record Shows (s : List ℕ) (o : Option Reading) (i j : ℕ) (a : Answers) : Type 0 where
+  pub number : numberOf (a .file) ≡ numberFor s o
+  pub count : countOf (a .file) ≡ length (listsIn o)
+  pub list : seenList s (a .list) ≡ Option·map listPart (getElem? (listsIn o) i)
+  pub key : seenPart s (a .key) ≡ Option·map (λ (g : Signature). g .key) (signatureOf (getElem? (listsIn o) i))
+  pub signature : seenPart s (a .signature) ≡ Option·map (λ (g : Signature). g .signature) (signatureOf (getElem? (listsIn o) i))
+  pub element : seenElement s (a .element) ≡ getElem? (elementsIn (getElem? (listsIn o) i)) j
+  pub places : a ≡ answersOf s o i j
+
+-- the contracts of `read`, `list`, `key`, `signature` and `element` say that they answer `answersOf s (accepted s) i j`
+abbrev pub Demand3 : Type 0
+Demand3 = (s : List ℕ) → Bytes s → (o : Option Reading) × Says s o × ((i j : ℕ) → Shows s o i j (answersOf s (accepted s) i j))
+
+-- the same of the answers of one call
+abbrev pub Answered : List ℕ → ℕ → ℕ → Answers → Type 0
+Answered s i j a = (o : Option Reading) × Says s o × Shows s o i j a

@@ -54,13 +54,15 @@ fn digests(b: &[u8], k: usize) {
     }
 }
 
-// The start of an element's line: the number of its list and its own, what it is, and where it stands.
-fn head(i: usize, j: usize, kind: &[u8], start: usize, size: usize) {
+// The start of an element's line: the number of its list and its own, what it is, where it stands, its type and its control.
+fn head(i: usize, j: usize, what: &[u8], start: usize, size: usize, kind: usize, control: usize) {
     decimal(b"element ", i);
     decimal(b" ", j);
-    text(kind);
+    text(what);
     decimal(b" start=", start);
     decimal(b" size=", size);
+    hex(b" type=", kind, 8);
+    hex(b" control=", control, 8);
 }
 
 // The element number j of the list number i.
@@ -75,9 +77,7 @@ fn element(s: &[u8], i: usize, j: usize, e: ElementAnswer) {
             hash_alg,
             count,
         } => {
-            head(i, j, b" launch", start, size);
-            hex(b" type=", 0x10, 8);
-            hex(b" control=", control, 8);
+            head(i, j, b" launch", start, size, 0x10, control);
             decimal(b" sinitminversion=", sinit_min_version);
             decimal(b" reserved=", reserved);
             hex(b" hashalg=", hash_alg, 4);
@@ -90,9 +90,7 @@ fn element(s: &[u8], i: usize, j: usize, e: ElementAnswer) {
             size,
             control,
         } => {
-            head(i, j, b" custom", start, size);
-            hex(b" type=", 3, 8);
-            hex(b" control=", control, 8);
+            head(i, j, b" custom", start, size, 3, control);
             text(b"\n");
         }
         ElementAnswer::Unjudged {
@@ -101,9 +99,7 @@ fn element(s: &[u8], i: usize, j: usize, e: ElementAnswer) {
             kind,
             control,
         } => {
-            head(i, j, b" unjudged", start, size);
-            hex(b" type=", kind, 8);
-            hex(b" control=", control, 8);
+            head(i, j, b" unjudged", start, size, kind, control);
             text(b"\n");
         }
         ElementAnswer::Refused => {}

@@ -1,0 +1,6 @@
+-- The laws that other crates cite.
+pub mod Bytes
+pub mod Sizes
+pub mod Elements
+pub mod Meaning
+pub mod Bodies

@@ -1,0 +1,24 @@
+-- Every case of the table holds: each answer computes to the number expected.
+use mathlib.Core.Path.{_≡_, refl}
+use mathlib.Core.Bool.{Bool, true, _&&_, and-eq-true-iff}
+use mathlib.Core.List.{List, [], _∷_}
+use borrow.Author.Tests.{eqb-true}
+use lib.Dec.{eqb}
+use Rattle.field.specs.Number.{bytes, number}
+use Rattle.field.specs.Field.{fieldAt, valueOf}
+use Rattle.range.specs.Range.{endsBy}
+use Rattle.heap.specs.Heap.{biosDataSize, osMleDataSize, osSinitDataSize, partsFit, osSinitPart, fieldsOf, versionKnown, sizeFits, endsWithin, lowPlaced, highPlaced, pmrsPlaced, numberOf, answerOf, heapOf}
+use Rattle.lines.specs.Table.{Case, AllCases, cases}
+
+test : List Case → Bool
+test [] = true
+test (c ∷ cs) = eqb (c .answer) (c .expected) && test cs
+
+tested : (cs : List Case) → test cs ≡ true → AllCases cs
+unfolding test
+tested [] e = tt
+tested (c ∷ cs) e = let p = and-eq-true-iff _ _ .0 e in (eqb-true _ _ (p .0), tested cs (p .1))
+
+pub all-hold : AllCases cases
+unfolding test bytes number fieldAt valueOf endsBy biosDataSize osMleDataSize osSinitDataSize partsFit osSinitPart fieldsOf versionKnown sizeFits endsWithin lowPlaced highPlaced pmrsPlaced numberOf answerOf heapOf
+all-hold = tested cases refl

@@ -1,0 +1,3 @@
+-- The table of cases, and the inputs of its cases.
+pub mod Heaps
+pub mod Table

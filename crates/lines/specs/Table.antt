@@ -1,0 +1,47 @@
+-- The cases marked P of "Both sides of a line", each with its number there, the number that the specification answers and the number expected.
+use Prim.Native.Nat.{ℕ, _-_, _+_, _^_}
+use mathlib.Core.Path.{_≡_}
+use mathlib.Core.List.{List, [], _∷_, _++_}
+use lib.ListN.{take}
+use Rattle.heap.specs.Heap.{numberOf, heapOf}
+use Rattle.lines.specs.Heaps.{element, endElement, osSinitData, heapBytes}
+
+pub record Case : Type 0 where
+  pub paper : ℕ
+  pub answer : ℕ
+  pub expected : ℕ
+
+abbrev pub case : ℕ → ℕ → ℕ → Case
+case p a e = record { paper = p; answer = a; expected = e }
+
+abbrev pub AllCases : List Case → Type 0
+AllCases [] = Unit
+AllCases (c ∷ cs) = (c .answer ≡ c .expected) × AllCases cs
+
+abbrev pub heapNumber : List ℕ → ℕ
+heapNumber heap = numberOf (heapOf heap)
+
+-- the sizes 8, 8, 108, in 124 bytes
+abbrev pub least : List ℕ
+least = heapBytes 8 8 (osSinitData 108 0 0 endElement)
+
+-- a low PMR of so many bytes, 2 MiB below 2^32
+abbrev pub withLowPmr : ℕ → List ℕ
+withLowPmr size = heapBytes 8 8 (osSinitData 108 (2 ^ 32 - 2 ^ 21) size endElement)
+
+abbrev pub cases : List Case
+cases =
+    -- "P1 Heap sizes 8, 8, 108 in 124 bytes pass rule 2; P2 in 123 bytes: 2."
+    case 1 (heapNumber least) 0
+    ∷ case 2 (heapNumber (take 123 least)) 2
+    -- "P3 part size 7: 2."
+    ∷ case 3 (heapNumber (heapBytes 7 8 (osSinitData 108 0 0 endElement))) 2
+    ∷ case 3 (heapNumber (heapBytes 8 7 (osSinitData 108 0 0 endElement))) 2
+    ∷ case 3 (heapNumber (heapBytes 8 8 (osSinitData 7 0 0 endElement))) 2
+    -- "P4 element size 7: 4."
+    ∷ case 4 (heapNumber (heapBytes 8 8 (osSinitData 116 0 0 (element 1 7 ++ endElement)))) 4
+    ∷ case 4 (heapNumber (heapBytes 8 8 (osSinitData 108 0 0 (element 0 7)))) 4
+    -- "P5 low PMR ending at 2^32 passes; P6 one byte more: 5."
+    ∷ case 5 (heapNumber (withLowPmr (2 ^ 21))) 0
+    ∷ case 6 (heapNumber (withLowPmr (2 ^ 21 + 1))) 5
+    ∷ []

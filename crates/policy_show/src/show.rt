@@ -208,7 +208,7 @@ fn lists(s: &[u8], count: usize) {
 }
 
 // The file s.
-pub fn file(s: &[u8]) {
+pub(crate) fn file(s: &[u8]) {
     match policy::read(s) {
         FileAnswer::Accepted { lists: count } => {
             decimal(b"accepted lists=", count);

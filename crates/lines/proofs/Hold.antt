@@ -5,9 +5,11 @@ use mathlib.Core.List.{List, [], _∷_}
 use borrow.Author.Tests.{eqb-true}
 use lib.Dec.{eqb}
 use Rattle.field.specs.Number.{bytes, number}
-use Rattle.field.specs.Field.{fieldAt, valueOf}
-use Rattle.range.specs.Range.{endsBy}
+use Rattle.field.specs.Field.{fieldAt, valueOf, same, markedAt}
+use Rattle.range.specs.Range.{insideOf, endsBy}
 use Rattle.heap.specs.Heap.{biosDataSize, osMleDataSize, osSinitDataSize, partsFit, osSinitPart, fieldsOf, versionKnown, sizeFits, endsWithin, lowPlaced, highPlaced, pmrsPlaced, numberOf, answerOf, heapOf}
+use Rattle.sinit.specs.Module.{E, rowOf}
+use Rattle.sinit.specs.Rules.{all, someBelow, inside, place, header, gdt, entry, selector, table, list, revisionMatches, match, listed, supported, moduleOf}
 use Rattle.lines.specs.Table.{Case, AllCases, cases}
 
 test : List Case → Bool
@@ -20,5 +22,5 @@ tested [] e = tt
 tested (c ∷ cs) e = let p = and-eq-true-iff _ _ .0 e in (eqb-true _ _ (p .0), tested cs (p .1))
 
 pub all-hold : AllCases cases
-unfolding test bytes number fieldAt valueOf endsBy biosDataSize osMleDataSize osSinitDataSize partsFit osSinitPart fieldsOf versionKnown sizeFits endsWithin lowPlaced highPlaced pmrsPlaced numberOf answerOf heapOf
+unfolding test bytes number fieldAt valueOf endsBy biosDataSize osMleDataSize osSinitDataSize partsFit osSinitPart fieldsOf versionKnown sizeFits endsWithin lowPlaced highPlaced pmrsPlaced numberOf answerOf heapOf same markedAt insideOf E rowOf all someBelow inside place header gdt entry selector table list revisionMatches match listed supported moduleOf
 all-hold = tested cases refl

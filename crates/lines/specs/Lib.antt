@@ -1,3 +1,4 @@
 -- The table of cases, and the inputs of its cases.
 pub mod Heaps
+pub mod Modules
 pub mod Table

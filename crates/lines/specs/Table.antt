@@ -4,7 +4,9 @@ use mathlib.Core.Path.{_≡_}
 use mathlib.Core.List.{List, [], _∷_, _++_}
 use lib.ListN.{take}
 use Rattle.heap.specs.Heap.{numberOf, heapOf}
+use Rattle.sinit.specs.Rules as sinit
 use Rattle.lines.specs.Heaps.{element, endElement, osSinitData, heapBytes}
+use Rattle.lines.specs.Modules.{moduleWith}
 
 pub record Case : Type 0 where
   pub paper : ℕ
@@ -29,6 +31,11 @@ least = heapBytes 8 8 (osSinitData 108 0 0 endElement)
 abbrev pub withLowPmr : ℕ → List ℕ
 withLowPmr size = heapBytes 8 8 (osSinitData 108 (2 ^ 32 - 2 ^ 21) size endElement)
 
+-- the answer for a module with a GDT limit and the selector 8, on a platform that all other rules permit
+abbrev pub moduleNumber : ℕ → ℕ
+moduleNumber limit =
+    sinit.numberOf (sinit.moduleOf (moduleWith limit) 0x7F000000 0x8000 (record { vendor = 0x8086; device = 0xB001; revision = 5 }) 7)
+
 abbrev pub cases : List Case
 cases =
     -- "P1 Heap sizes 8, 8, 108 in 124 bytes pass rule 2; P2 in 123 bytes: 2."
@@ -44,4 +51,7 @@ cases =
     -- "P5 low PMR ending at 2^32 passes; P6 one byte more: 5."
     ∷ case 5 (heapNumber (withLowPmr (2 ^ 21))) 0
     ∷ case 6 (heapNumber (withLowPmr (2 ^ 21 + 1))) 5
+    -- "P7 SegSel 8 with GDTLimit 23 passes; P8 with 22: 8."
+    ∷ case 7 (moduleNumber 23) 0
+    ∷ case 8 (moduleNumber 22) 8
     ∷ []

@@ -1,7 +1,6 @@
 -- The laws that other crates cite, and what the proofs of the functions share.
 pub mod Conditions
 pub mod Meaning
-pub mod Lines
 mod Tests
 mod Editions
 mod Faults

@@ -9,7 +9,8 @@ use Rattle.field.specs.Field.{fieldAt, valueOf, same, markedAt}
 use Rattle.range.specs.Range.{insideOf, endsBy}
 use Rattle.heap.specs.Heap.{biosDataSize, osMleDataSize, osSinitDataSize, partsFit, osSinitPart, fieldsOf, versionKnown, sizeFits, endsWithin, lowPlaced, highPlaced, pmrsPlaced, numberOf, answerOf, heapOf}
 use Rattle.sinit.specs.Module.{E, rowOf}
-use Rattle.sinit.specs.Rules.{all, someBelow, inside, place, header, gdt, entry, selector, table, list, revisionMatches, match, listed, supported, moduleOf}
+use Rattle.range.specs.Rules.{all}
+use Rattle.sinit.specs.Rules.{someBelow, inside, place, header, gdt, entry, selector, table, list, revisionMatches, match, listed, supported, moduleOf}
 use Rattle.lines.specs.Table.{Case, AllCases, cases}
 
 test : List Case → Bool

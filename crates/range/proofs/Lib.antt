@@ -1,3 +1,5 @@
 -- The laws that other crates cite.
 pub mod Ranges
 pub mod Rules
+pub mod Tests
+pub mod Meaning

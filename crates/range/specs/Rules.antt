@@ -1,7 +1,7 @@
 -- Rules in the order they are tried: the first that fails gives the number.
 use Prim.Native.Nat.{ℕ, _<_}
 use mathlib.Core.Path.{_≡_}
-use mathlib.Core.Bool.{Bool, true, false, cond}
+use mathlib.Core.Bool.{Bool, true, false, cond, _&&_}
 use mathlib.Core.List.{List, [], _∷_, _++_}
 
 -- a rule: the number that is given when it fails, and whether it holds
@@ -11,6 +11,11 @@ pub record Rule : Type 0 where
 
 abbrev pub rule : ℕ → Bool → Rule
 rule n b = record { number = n; holds = b }
+
+-- a rule of several conditions: every one of them holds
+unfoldable pub all : List Bool → Bool
+all [] = true
+all (b ∷ bs) = b && all bs
 
 -- the number of the first rule that fails, 0 where all hold
 abbrev pub firstFailing : List Rule → ℕ

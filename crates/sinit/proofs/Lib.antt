@@ -1,6 +1,6 @@
 -- The laws that other crates cite, and what the proofs of the functions share.
 pub mod Conditions
 pub mod Meaning
-mod Tests
+mod Below
 mod Editions
 mod Faults

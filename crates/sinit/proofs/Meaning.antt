@@ -1,21 +1,23 @@
 -- The answer gives the values exactly where every rule holds, and a number exactly where it is that of the first rule that is broken.
 use Prim.Native.Nat.{ℕ, zero, suc, _<_}
 use mathlib.Core.Path.{_≡_, refl, sym}
-use mathlib.Core.Logic.{_↔_, _⊎_, inl, inr, ⊎-elim}
-use mathlib.Core.Bool.{Bool, true, false, cond, true≢false}
-use mathlib.Core.List.{List, [], _∷_}
+use mathlib.Core.Logic.{_↔_}
+use mathlib.Core.Bool.{true}
+use mathlib.Core.List.{List}
 use native.Mathlib.Omega.{arith}
 use borrow.Author.Tests.{leb-true, le-leb}
 use lib.Dec.{lit<, eqb·suc-zero}
-use Rattle.range.specs.Rules.{Rule, rule, firstFailing, AllHold, Numbered}
+use Rattle.range.specs.Rules.{rule, firstFailing}
+use Rattle.range.specs.Meaning.{AllSay}
 use Rattle.range.proofs.Rules.{all-exactly}
+use Rattle.range.proofs.Tests.{_&_}
+use Rattle.range.proofs.Meaning.{Agree, agrees, numbered, all-say, broken-number, broken-exactly}
 use Rattle.sinit.specs.declared.Chipset.{Chipset}
 use Rattle.sinit.specs.declared.ModuleData.{ModuleData}
 use Rattle.sinit.specs.declared.ModuleAnswer.the-variants.{Module, Refused}
 use Rattle.sinit.specs.Rules.{supported, rules, valuesOf, answerOf, moduleOf, numberOf}
-use Rattle.sinit.specs.Meaning.{Supported, ModuleHolds, Meaning, meaning, meanings, FirstBroken, PermittedExactly, RefusedExactly}
+use Rattle.sinit.specs.Meaning.{Supported, ModuleHolds, meanings, PermittedExactly, RefusedExactly}
 use Rattle.sinit.proofs.Conditions.{place-exactly, header-exactly, gdt-exactly, entry-exactly, selector-exactly, table-exactly, list-exactly, listed-exactly}
-use Rattle.sinit.proofs.Tests.{_&_}
 
 -- AN ANSWER AND ITS NUMBER
 
@@ -37,69 +39,11 @@ number-exactly (suc k) values n = (
   λ h. rw (eqb·suc-zero k, h .1),
 )
 
--- RULES AND THEIR MEANINGS
-
-abbrev AllSay : List Meaning → Type 0
-AllSay [] = Unit
-AllSay (p ∷ ps) = p .says × AllSay ps
-
--- a rule and a meaning with the same number, not 0, of which the one holds exactly where the other does
-record Agrees (r : Rule) (p : Meaning) : Type 0 where
-  pub positive : 0 < r .number
-  pub same : r .number ≡ p .number
-  pub exactly : (r .holds ≡ true) ↔ p .says
-
-abbrev Agree : List Rule → List Meaning → Type 0
-Agree [] [] = Unit
-Agree [] (p ∷ ps) = ⊥
-Agree (r ∷ rs) [] = ⊥
-Agree (r ∷ rs) (p ∷ ps) = Agrees r p × Agree rs ps
-
-numbered : (rs : List Rule) (ps : List Meaning) → Agree rs ps → Numbered rs
-numbered [] ps a = tt
-numbered (r ∷ rs) [] a = absurd a
-numbered (r ∷ rs) (p ∷ ps) a = (a .0 .positive, numbered rs ps (a .1))
-
-all-say : (rs : List Rule) (ps : List Meaning) → Agree rs ps → AllHold rs ↔ AllSay ps
-all-say [] [] a = (λ h. tt, λ h. tt)
-all-say [] (p ∷ ps) a = absurd a
-all-say (r ∷ rs) [] a = absurd a
-all-say (r ∷ rs) (p ∷ ps) a =
-    let one = a .0 .exactly in
-    let rest = all-say rs ps (a .1) in
-    (λ h. (one .0 (h .0), rest .0 (h .1)), λ h. (one .1 (h .0), rest .1 (h .1)))
-
-broken-number : (rs : List Rule) (ps : List Meaning) → Agree rs ps → (n : ℕ) → FirstBroken ps n → 0 < n
-broken-number [] [] a n b = absurd b
-broken-number [] (p ∷ ps) a n b = absurd a
-broken-number (r ∷ rs) [] a n b = absurd a
-broken-number (r ∷ rs) (p ∷ ps) a n b =
-    ⊎-elim (λ h. omega (arith, a .0, h .1)) (λ h. broken-number rs ps (a .1) n (h .1)) b
-
--- one rule in front of the later ones
-in-front : (t : Bool) (later k n : ℕ) {P L : Type 0} → (t ≡ true) ↔ P → (later ≡ n) ↔ L
-    → (cond t later k ≡ n) ↔ (((P → ⊥) × (k ≡ n)) ⊎ (P × L))
-in-front true later k n e l = (λ h. inr (e .0 refl, l .0 h), ⊎-elim (λ h. absurd (h .0 (e .0 refl))) (λ h. l .1 (h .1)))
-in-front false later k n e l = (
-  λ h. inl (λ p. true≢false (sym (e .1 p)), h),
-  ⊎-elim (λ h. h .1) (λ h. absurd (true≢false (sym (e .1 (h .0))))),
-)
-
-broken-exactly : (rs : List Rule) (ps : List Meaning) → Agree rs ps → (n : ℕ) → 0 < n → (firstFailing rs ≡ n) ↔ FirstBroken ps n
-broken-exactly [] [] a n z = (λ e. absurd (omega arith), λ b. absurd b)
-broken-exactly [] (p ∷ ps) a n z = absurd a
-broken-exactly (r ∷ rs) [] a n z = absurd a
-broken-exactly (r ∷ rs) (p ∷ ps) a n z =
-    rw (a .0 .same) (in-front (r .holds) (firstFailing rs) (p .number) n (a .0 .exactly) (broken-exactly rs ps (a .1) n z))
-
 -- THE MODULE
 
 supported-exactly : (m : List ℕ) (osSinitData : ℕ) → (supported m osSinitData ≡ true) ↔ Supported m osSinitData
 unfolding supported
 supported-exactly m osSinitData = (leb-true _ _, le-leb _ _)
-
-agrees : {n : ℕ} {t : Bool} {P : Type 0} → 0 < n → (t ≡ true) ↔ P → Agrees (rule n t) (meaning n P)
-agrees z e = record { positive = z; same = refl; exactly = e }
 
 module _ (m : List ℕ) (base capacity : ℕ) (c : Chipset) (osSinitData : ℕ) where
   agree : Agree (rules m base capacity c osSinitData) (meanings m base capacity c osSinitData)

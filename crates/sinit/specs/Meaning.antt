@@ -1,10 +1,11 @@
 -- Rules 6 to 11 as plain propositions, in their order, and what the answer says of them.
 use Prim.Native.Nat.{ℕ, _+_, _*_, _%_, _≤_, _<_}
 use mathlib.Core.Path.{_≡_}
-use mathlib.Core.Logic.{_↔_, _⊎_}
+use mathlib.Core.Logic.{_↔_}
 use mathlib.Core.List.{List, [], _∷_}
 use lib.Bits.{bitAnd}
 use lib.ListN.{length, take, drop}
+use Rattle.range.specs.Meaning.{Meaning, meaning, FirstBroken}
 use Rattle.sinit.specs.declared.Chipset.{Chipset}
 use Rattle.sinit.specs.declared.ModuleData.{ModuleData}
 use Rattle.sinit.specs.declared.ModuleAnswer.the-variants.{Module, Refused}
@@ -89,14 +90,6 @@ pub record ModuleHolds (m : List ℕ) (base capacity : ℕ) (c : Chipset) (osSin
   pub listed : Listed m c
   pub supported : Supported m osSinitData
 
--- a rule's number and what it says
-pub record Meaning : Type 1 where
-  pub number : ℕ
-  pub says : Type 0
-
-abbrev pub meaning : ℕ → Type 0 → Meaning
-meaning n p = record { number = n; says = p }
-
 -- the rules in the order they are tried
 abbrev pub meanings : List ℕ → ℕ → ℕ → Chipset → ℕ → List Meaning
 meanings m base capacity c osSinitData =
@@ -110,11 +103,6 @@ meanings m base capacity c osSinitData =
     ∷ meaning 10 (Listed m c)
     ∷ meaning 11 (Supported m osSinitData)
     ∷ []
-
--- the first rule that is broken has the number n: the first of the list, or the first of the rest where that one holds
-abbrev pub FirstBroken : List Meaning → ℕ → Type 0
-FirstBroken [] n = ⊥
-FirstBroken (r ∷ rs) n = ((r .says → ⊥) × (r .number ≡ n)) ⊎ (r .says × FirstBroken rs n)
 
 -- the module's values are answered exactly where every rule holds
 abbrev pub PermittedExactly : Type 0

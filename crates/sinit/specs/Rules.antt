@@ -1,13 +1,13 @@
 -- Rules 6 to 11, in the order they are tried, and the answer: the number of the first that fails, or the module's values. All sums are whole numbers.
 use Prim.Native.Nat.{ℕ, zero, suc, _+_, _*_, _%_}
-use mathlib.Core.Bool.{Bool, true, false, cond, not, _&&_, _||_}
+use mathlib.Core.Bool.{Bool, false, cond, not, _||_}
 use mathlib.Core.List.{List, [], _∷_}
 use lib.Bits.{bitAnd}
 use lib.Dec.{leb, ltb, eqb}
 use lib.ListN.{length}
 use Rattle.field.specs.Field.{markedAt}
 use Rattle.range.specs.Range.{insideOf, endsBy}
-use Rattle.range.specs.Rules.{Rule, rule, firstFailing}
+use Rattle.range.specs.Rules.{Rule, rule, all, firstFailing}
 use Rattle.sinit.specs.declared.Chipset.{Chipset}
 use Rattle.sinit.specs.declared.ModuleData.{ModuleData}
 use Rattle.sinit.specs.declared.ModuleAnswer.{ModuleAnswer}
@@ -17,11 +17,6 @@ use Rattle.sinit.specs.Module.{type, chipsetModule, headerLen, version, 
 use Rattle.sinit.specs.Module.{E, gdtLimit, gdtLimitEnd, gdtBasePtr, entryPoint, segSel, descriptorSize, secondEnd}
 use Rattle.sinit.specs.Module.{tableSize, uuid, tableType, sinitTable, tableLength, chipsetList, osSinitDataVer, minMleHeaderVer, acmVersion}
 use Rattle.sinit.specs.Module.{countSize, count, mostEntries, entrySize, entryAt, entryFlags, entryVendor, entryDevice, entryRevision}
-
--- every condition holds
-unfoldable pub all : List Bool → Bool
-all [] = true
-all (b ∷ bs) = b && all bs
 
 -- a test holds of some number below a bound
 unfoldable pub someBelow : (ℕ → Bool) → ℕ → Bool

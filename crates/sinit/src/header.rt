@@ -5,7 +5,8 @@ ghost use mathlib.Core.Path.{_≡_};
 ghost use Prim.Native.Nat.{_<_, _^_};
 ghost use Rattle.sinit.specs.Module.{headerLen, gdtLimit, E, first, editions, rowOf, editionOf};
 ghost use Rattle.sinit.specs.Module as spec;
-ghost use Rattle.sinit.specs.Rules.{all, place, header, gdt, entry, selector};
+ghost use Rattle.range.specs.Rules.{all};
+ghost use Rattle.sinit.specs.Rules.{place, header, gdt, entry, selector};
 
 const PAGE_SIZE: u64 = 4096;
 

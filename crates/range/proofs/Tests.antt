@@ -1,13 +1,10 @@
--- Tests and the propositions that they say: one test, a list of them, and a test of some number below a bound.
-use Prim.Native.Nat.{ℕ, zero, suc, _<_}
+-- Tests and the propositions that they say: one test, and a list of them.
 use mathlib.Core.Path.{_≡_, refl, sym, _∙_}
-use mathlib.Core.Logic.{_↔_, _⊎_, inl, inr, ⊎-elim}
-use mathlib.Core.Bool.{Bool, true, false, not, _||_, true≢false, not-eq-not, and-eq-true-iff, or-true}
+use mathlib.Core.Logic.{_↔_}
+use mathlib.Core.Bool.{Bool, true, false, not, true≢false, not-eq-not, and-eq-true-iff}
 use mathlib.Core.List.{List, [], _∷_}
-use native.Mathlib.Nat.{eq-or-lt-of-le}
-use native.Mathlib.Omega.{arith}
 use borrow.Author.Tests.{not-true, not-false}
-use Rattle.sinit.specs.Rules.{all, someBelow}
+use Rattle.range.specs.Rules.{all}
 
 -- a test that says a proposition is false where that fails, true where it holds, and equals each test that says the same
 pub fails : {t : Bool} {P : Type 0} → (t ≡ true) ↔ P → (P → ⊥) → false ≡ t
@@ -43,31 +40,3 @@ each (b ∷ bs) = (
   λ e. let p = and-eq-true-iff b (all bs) .0 e in (p .0, each bs .0 (p .1)),
   λ h. and-eq-true-iff b (all bs) .1 (h .0, each bs .1 (h .1)),
 )
-
--- some number below n passes a test
-pub record Found (p : ℕ → Bool) (n : ℕ) : Type 0 where
-  pub index : ℕ
-  pub below : index < n
-  pub passes : p index ≡ true
-
-either : (a b : Bool) → (a || b) ≡ true → (a ≡ true) ⊎ (b ≡ true)
-either true b e = inl refl
-either false b e = inr e
-
-pub found : (p : ℕ → Bool) (n : ℕ) → someBelow p n ≡ true → Found p n
-unfolding someBelow
-found p zero e = absurd (true≢false (sym e))
-found p (suc n) e =
-    ⊎-elim
-    (λ s. let f = found p n s in record { index = f .index; below = omega arith; passes = f .passes })
-    (λ s. record { index = n; below = omega arith; passes = s })
-    (either (someBelow p n) (p n) e)
-
-pub finds : (p : ℕ → Bool) (n i : ℕ) → i < n → p i ≡ true → someBelow p n ≡ true
-unfolding someBelow
-finds p zero i h e = absurd (omega arith)
-finds p (suc n) i h e =
-    ⊎-elim
-    (λ z. rw (← z, e, or-true (someBelow p i)))
-    (λ l. rw (finds p n i l e))
-    (eq-or-lt-of-le {n = i} {m = n} (omega arith))

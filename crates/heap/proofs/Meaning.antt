@@ -78,12 +78,12 @@ unfolding numberOf answerOf
 number-of zero o = refl
 number-of (suc n) o = refl
 
-accepts : (n : ℕ) (v o : OsSinitData) → (answerOf n v ≡ OsSinit o) ↔ ((n ≡ 0) × (o ≡ v))
+pub accepts : (n : ℕ) (v o : OsSinitData) → (answerOf n v ≡ OsSinit o) ↔ ((n ≡ 0) × (o ≡ v))
 unfolding answerOf
 accepts zero v o = (λ e. (refl, cc), λ p. cc)
 accepts (suc n) v o = (λ e. let z : _≡_ {A = ℕ} 0 1 = cc in absurd (omega arith), λ p. absurd (omega arith))
 
-refuses : (n m : ℕ) (v : OsSinitData) → (answerOf n v ≡ Refused m) ↔ ((n ≡ m) × (0 < m))
+pub refuses : (n m : ℕ) (v : OsSinitData) → (answerOf n v ≡ Refused m) ↔ ((n ≡ m) × (0 < m))
 unfolding answerOf
 refuses zero m v = (λ e. let z : _≡_ {A = ℕ} 0 1 = cc in absurd (omega arith), λ p. absurd (omega arith))
 refuses (suc n) m v = (λ e. let q : suc n ≡ m = cc in (q, omega arith), λ p. cc)

@@ -8,9 +8,19 @@ use native.Mathlib.Omega.{arith}
 use Rattle.range.specs.Rules.{Rule, firstFailing, AllHold, Numbered, FirstFails}
 
 -- rules that hold are passed over
-passed : (rs later : List Rule) → AllHold rs → firstFailing (rs ++ later) ≡ firstFailing later
+pub passed : (rs later : List Rule) → AllHold rs → firstFailing (rs ++ later) ≡ firstFailing later
 passed [] later h = refl
 passed (r ∷ rs) later h = rw (h .0) (passed rs later (h .1))
+
+-- and rules after one that fails are not tried
+pub stopped : (rs later : List Rule) (n : ℕ) → 0 < n → firstFailing rs ≡ n → firstFailing (rs ++ later) ≡ n
+stopped [] later n z e = absurd (omega arith)
+stopped (r ∷ rs) later n z e = by (r .holds) (stopped rs later n z) e
+  where
+    by : (b : Bool) → (firstFailing rs ≡ n → firstFailing (rs ++ later) ≡ n) → cond b (firstFailing rs) (r .number) ≡ n
+        → cond b (firstFailing (rs ++ later)) (r .number) ≡ n
+    by true rest h = rest h
+    by false rest h = h
 
 holds-first : (b : Bool) (m n : ℕ) → 0 < n → cond b m n ≡ 0 → (b ≡ true) × (m ≡ 0)
 holds-first true m n z e = (refl, e)

@@ -28,11 +28,11 @@ number-of : (k : ℕ) (values : ModuleData) → numberOf (answerOf k values) ≡
 number-of zero values = refl
 number-of (suc k) values = rw (eqb·suc-zero k)
 
-values-exactly : (k : ℕ) (values d : ModuleData) → (answerOf k values ≡ Module d) ↔ ((k ≡ 0) × (d ≡ values))
+pub values-exactly : (k : ℕ) (values d : ModuleData) → (answerOf k values ≡ Module d) ↔ ((k ≡ 0) × (d ≡ values))
 values-exactly zero values d = (λ e. (refl, cc), λ h. cc)
 values-exactly (suc k) values d = (λ e. absurd (different (sym (rw (eqb·suc-zero k) at e))), λ h. absurd (omega arith))
 
-number-exactly : (k : ℕ) (values : ModuleData) (n : ℕ) → (answerOf k values ≡ Refused n) ↔ ((0 < n) × (k ≡ n))
+pub number-exactly : (k : ℕ) (values : ModuleData) (n : ℕ) → (answerOf k values ≡ Refused n) ↔ ((0 < n) × (k ≡ n))
 number-exactly zero values n = (λ e. absurd (different e), λ h. absurd (omega arith))
 number-exactly (suc k) values n = (
   λ e. let f = rw (eqb·suc-zero k) at e in let h : suc k ≡ n = cc in (omega arith, h),

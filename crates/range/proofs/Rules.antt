@@ -1,6 +1,6 @@
 -- The number of a list of rules is 0 exactly where all hold, and is another number exactly where the first rule that fails has it.
-use Prim.Native.Nat.{ℕ, _<_}
-use mathlib.Core.Path.{_≡_, refl, ap, _∙_}
+use Prim.Native.Nat.{ℕ, zero, suc, _≤_, _<_}
+use mathlib.Core.Path.{_≡_, refl, sym, ap, _∙_}
 use mathlib.Core.Logic.{_↔_}
 use mathlib.Core.Bool.{Bool, true, false, cond}
 use mathlib.Core.List.{List, [], _∷_, _++_, append-nil}
@@ -61,3 +61,40 @@ first-exactly rs n z = (
   fails-first rs n z,
   λ f. ap firstFailing (f .split) ∙ passed (f .before) (f .failing ∷ f .after) (f .earlier) ∙ rw (f .fails) (f .numbered),
 )
+
+-- RULES JOINED
+
+pub numbered-append : (rs later : List Rule) → Numbered rs → Numbered later → Numbered (rs ++ later)
+numbered-append [] later y z = z
+numbered-append (r ∷ rs) later y z = (y .0, numbered-append rs later (y .1) z)
+
+-- the number is 0 exactly where it is 0 for each of the two lists; or where one rule holds and the number of the later ones is 0
+pub joined-exactly : (rs later : List Rule) → Numbered rs → (firstFailing (rs ++ later) ≡ 0) ↔ ((firstFailing rs ≡ 0) × (firstFailing later ≡ 0))
+joined-exactly rs later m = (
+  there (firstFailing rs) refl,
+  λ h. passed rs later (all-exactly rs m .0 (h .0)) ∙ h .1,
+)
+  where
+    there : (n : ℕ) → firstFailing rs ≡ n → firstFailing (rs ++ later) ≡ 0 → (firstFailing rs ≡ 0) × (firstFailing later ≡ 0)
+    there zero e z = (e, sym (passed rs later (all-exactly rs m .0 e)) ∙ z)
+    there (suc n) e z = absurd (let s = stopped rs later (suc n) (omega arith) e in omega arith)
+
+pub rule-exactly : (n : ℕ) (b : Bool) (later : ℕ) → 0 < n → (cond b later n ≡ 0) ↔ ((b ≡ true) × (later ≡ 0))
+rule-exactly n b later z = (holds-first b later n z, λ h. rw (h .0) (h .1))
+
+-- where no number of the first list is over a bound, a number over the bound comes from the second
+abbrev pub AtMost : ℕ → List Rule → Type 0
+AtMost bound [] = Unit
+AtMost bound (r ∷ rs) = (r .number ≤ bound) × AtMost bound rs
+
+pub at-most-append : (bound : ℕ) (rs later : List Rule) → AtMost bound rs → AtMost bound later → AtMost bound (rs ++ later)
+at-most-append bound [] later y z = z
+at-most-append bound (r ∷ rs) later y z = (y .0, at-most-append bound rs later (y .1) z)
+
+pub from-later : (bound n : ℕ) (rs later : List Rule) → AtMost bound rs → bound < n → firstFailing (rs ++ later) ≡ n → firstFailing later ≡ n
+from-later bound n [] later y l e = e
+from-later bound n (r ∷ rs) later y l e = by (r .holds) (from-later bound n rs later (y .1) l) e
+  where
+    by : (b : Bool) → (firstFailing (rs ++ later) ≡ n → firstFailing later ≡ n) → cond b (firstFailing (rs ++ later)) (r .number) ≡ n → firstFailing later ≡ n
+    by true rest h = rest h
+    by false rest h = absurd (omega (arith, y .0))

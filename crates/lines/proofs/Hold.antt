@@ -3,15 +3,21 @@ use mathlib.Core.Path.{_≡_, refl}
 use mathlib.Core.Bool.{Bool, true, _&&_, and-eq-true-iff}
 use mathlib.Core.List.{List, [], _∷_}
 use borrow.Author.Tests.{eqb-true}
-use lib.Dec.{eqb}
+use lib.Dec.{lit<, lit≤, eqb}
 use Rattle.field.specs.Number.{bytes, number}
 use Rattle.field.specs.Field.{fieldAt, valueOf, same, markedAt}
-use Rattle.range.specs.Range.{insideOf, endsBy}
+use Rattle.range.specs.Range.{insideOf, clearOf, endsBy}
 use Rattle.heap.specs.Heap.{biosDataSize, osMleDataSize, osSinitDataSize, partsFit, osSinitPart, fieldsOf, versionKnown, sizeFits, endsWithin, lowPlaced, highPlaced, pmrsPlaced, numberOf, answerOf, heapOf}
 use Rattle.sinit.specs.Module.{E, rowOf}
 use Rattle.range.specs.Rules.{all}
 use Rattle.sinit.specs.Rules.{someBelow, inside, place, header, gdt, entry, selector, table, list, revisionMatches, match, listed, supported, moduleOf}
+use Rattle.pages.specs.Entry.{presentOf, addressOf, reservedClear}
+use Rattle.pages.specs.Memory.{allowed, protected}
+use Rattle.pages.specs.Tables.{foundFrom}
+use Rattle.pages.specs.Rules.{follows, rulesFrom}
 use Rattle.lines.specs.Table.{Case, AllCases, cases}
+use Rattle.lines.specs.Windows.{entryOf}
+use Rattle.lines.proofs.Windows.{window-number}
 
 test : List Case → Bool
 test [] = true
@@ -23,5 +29,11 @@ tested [] e = tt
 tested (c ∷ cs) e = let p = and-eq-true-iff _ _ .0 e in (eqb-true _ _ (p .0), tested cs (p .1))
 
 pub all-hold : AllCases cases
-unfolding test bytes number fieldAt valueOf endsBy biosDataSize osMleDataSize osSinitDataSize partsFit osSinitPart fieldsOf versionKnown sizeFits endsWithin lowPlaced highPlaced pmrsPlaced numberOf answerOf heapOf same markedAt insideOf E rowOf all someBelow inside place header gdt entry selector table list revisionMatches match listed supported moduleOf
-all-hold = tested cases refl
+unfolding test bytes number fieldAt valueOf endsBy biosDataSize osMleDataSize osSinitDataSize partsFit osSinitPart fieldsOf versionKnown sizeFits endsWithin lowPlaced highPlaced pmrsPlaced numberOf answerOf heapOf same markedAt insideOf E rowOf all someBelow inside place header gdt entry selector table list revisionMatches match listed supported moduleOf presentOf addressOf reservedClear allowed protected clearOf foundFrom follows rulesFrom
+all-hold =
+    tested cases
+    (rw (
+      window-number (entryOf 0x105000 ∷ entryOf 0x104000 ∷ []) (lit≤ tt) (lit< tt, (lit< tt, tt)),
+      window-number (entryOf 0x104000 ∷ entryOf 0x105000 ∷ []) (lit≤ tt) (lit< tt, (lit< tt, tt)),
+      window-number (entryOf 0x104000 ∷ entryOf 0x104000 ∷ []) (lit≤ tt) (lit< tt, (lit< tt, tt)),
+    ))

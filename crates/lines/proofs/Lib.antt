@@ -1,2 +1,3 @@
 -- The proof of the table.
+pub mod Windows
 pub mod Hold

@@ -1,4 +1,5 @@
 -- The table of cases, and the inputs of its cases.
 pub mod Heaps
 pub mod Modules
+pub mod Windows
 pub mod Table

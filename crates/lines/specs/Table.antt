@@ -5,8 +5,10 @@ use mathlib.Core.List.{List, [], _∷_, _++_}
 use lib.ListN.{take}
 use Rattle.heap.specs.Heap.{numberOf, heapOf}
 use Rattle.sinit.specs.Rules as sinit
+use Rattle.pages.specs.Rules as pages
 use Rattle.lines.specs.Heaps.{element, endElement, osSinitData, heapBytes}
 use Rattle.lines.specs.Modules.{moduleWith}
+use Rattle.lines.specs.Windows.{entryOf, windowBase, windowWith, memory}
 
 pub record Case : Type 0 where
   pub paper : ℕ
@@ -36,6 +38,10 @@ abbrev pub moduleNumber : ℕ → ℕ
 moduleNumber limit =
     sinit.numberOf (sinit.moduleOf (moduleWith limit) 0x7F000000 0x8000 (record { vendor = 0x8086; device = 0xB001; revision = 5 }) 7)
 
+-- the answer for the walk of a window whose page table has these entries
+unfoldable pub walkNumber : List ℕ → ℕ
+walkNumber entries = pages.numberOf (pages.walkOf (windowWith entries) memory windowBase)
+
 abbrev pub cases : List Case
 cases =
     -- "P1 Heap sizes 8, 8, 108 in 124 bytes pass rule 2; P2 in 123 bytes: 2."
@@ -54,4 +60,9 @@ cases =
     -- "P7 SegSel 8 with GDTLimit 23 passes; P8 with 22: 8."
     ∷ case 7 (moduleNumber 23) 0
     ∷ case 8 (moduleNumber 22) 8
+    -- "P9 two pages at 0x105000, 0x104000: 16." In the other order they pass.
+    ∷ case 9 (walkNumber (entryOf 0x105000 ∷ entryOf 0x104000 ∷ [])) 16
+    ∷ case 9 (walkNumber (entryOf 0x104000 ∷ entryOf 0x105000 ∷ [])) 0
+    -- "P10 equal addresses: 16."
+    ∷ case 10 (walkNumber (entryOf 0x104000 ∷ entryOf 0x104000 ∷ [])) 16
     ∷ []

@@ -1,0 +1,3 @@
+-- The laws that other crates cite.
+pub mod Meaning
+pub mod Pages

@@ -1,0 +1,266 @@
+-- Where no rule of the walk fails, the entries that are present obey all of them, and what was met is what there is.
+use Prim.Native.Nat.{ℕ, suc, _+_, _≤_, _<_}
+use mathlib.Core.Path.{_≡_, refl, sym, _∙_}
+use mathlib.Core.Logic.{⊎-elim}
+use mathlib.Core.Bool.{Bool, true, false, cond, true≢false}
+use mathlib.Core.List.{List}
+use native.Mathlib.Omega.{arith}
+use borrow.Author.Count.{below-more}
+use borrow.Author.Tests.{ltb-true, eqb-true, eqb-false}
+use lib.Dec.{eqb}
+use Rattle.range.specs.Rules.{AllHold}
+use Rattle.pages.specs.declared.Kind.{Kind}
+use Rattle.pages.specs.declared.Kind.the-variants.{Pointer, Directory, Page}
+use Rattle.pages.specs.declared.Memory.{Memory}
+use Rattle.pages.specs.declared.levels.State.{State}
+use Rattle.pages.specs.Entry.{presentOf, addressOf}
+use Rattle.pages.specs.Memory.{regions}
+use Rattle.pages.specs.Tables.{levelSize, foundFrom}
+use Rattle.pages.specs.Rules.{mostTables, startOf, afterTable, afterPage, after, afterAll, ownRules, entryRules, rulesFrom, walkRules, metOf}
+use Rattle.pages.specs.Meaning.{Within, Some, position, presentBelow, entry, Present, named, Walks}
+use Rattle.pages.proofs.Tests.{follows-exactly}
+use Rattle.pages.proofs.Found.{below-none, below-present, below-absent, in-level}
+use Rattle.pages.proofs.Conditions.{protected-exactly, window, Sound, Fine, fine-exactly, base-exactly}
+use Rattle.pages.proofs.Invariants.{kept}
+use Rattle.pages.proofs.Stages.{afterPointers, afterDirectories, Stages, stages, met-last}
+
+-- what holds below a number, and of it
+upto : (P : ℕ → Type 0) (n : ℕ) → ((i : ℕ) → i < n → P i) → P n → (i : ℕ) → i < suc n → P i
+upto P n below here i h = below-more P n below here i (omega arith)
+
+module _ (w : List ℕ) (m : Memory) (t : ℕ) where
+  -- what is known of the entries with numbers below l, where the level began after the address a
+  record Met (k : Kind) (a last l : ℕ) : Type 0 where
+    pub least : a ≤ last
+    pub sound : (i : ℕ) → i < l → Present w m t k i → Sound w m t k (entry w m t k i)
+    pub above : (i : ℕ) → i < l → Present w m t k i → a < addressOf (entry w m t k i)
+    pub below : (i : ℕ) → i < l → Present w m t k i → addressOf (entry w m t k i) ≤ last
+    pub climbs : (i j : ℕ) → i < j → j < l → Present w m t k i → Present w m t k j → addressOf (entry w m t k i) < addressOf (entry w m t k j)
+
+  met-none : (k : Kind) (a : ℕ) → Met k a a 0
+  met-none k a = record {
+    least = omega arith;
+    sound = λ i h. absurd (omega arith);
+    above = λ i h. absurd (omega arith);
+    below = λ i h. absurd (omega arith);
+    climbs = λ i j h g. absurd (omega arith);
+  }
+
+  met-absent : (k : Kind) (a last l : ℕ) → Met k a last l → presentOf (entry w m t k l) ≡ false → Met k a last (suc l)
+  met-absent k a last l h e =
+      record {
+        least = h .least;
+        sound = upto (λ (i : ℕ). Present w m t k i → Sound w m t k (entry w m t k i)) l (h .sound) (λ p. never p);
+        above = upto (λ (i : ℕ). Present w m t k i → a < addressOf (entry w m t k i)) l (h .above) (λ p. never p);
+        below = upto (λ (i : ℕ). Present w m t k i → addressOf (entry w m t k i) ≤ last) l (h .below) (λ p. never p);
+        climbs = λ i j x y.
+            upto (λ (j : ℕ). i < j → Present w m t k i → Present w m t k j → addressOf (entry w m t k i) < addressOf (entry w m t k j)) l
+            (λ j y x. h .climbs i j x y)
+            (λ x p q. never q)
+            j
+            y
+            x;
+      }
+    where
+      never : {A : Type 0} → Present w m t k l → A
+      never p = absurd (true≢false (sym p ∙ e))
+
+  met-next : (k : Kind) (a last l : ℕ) → Met k a last l → Sound w m t k (entry w m t k l) → last < addressOf (entry w m t k l)
+      → Met k a (addressOf (entry w m t k l)) (suc l)
+  met-next k a last l h s b =
+      record {
+        least = omega (arith, h .least);
+        sound = upto (λ (i : ℕ). Present w m t k i → Sound w m t k (entry w m t k i)) l (h .sound) (λ p. s);
+        above = upto (λ (i : ℕ). Present w m t k i → a < addressOf (entry w m t k i)) l (h .above) (λ p. omega (arith, h .least));
+        below = upto (λ (i : ℕ). Present w m t k i → addressOf (entry w m t k i) ≤ addressOf (entry w m t k l)) l
+            (λ i x p. omega (arith, h .below i x p))
+            (λ p. omega arith);
+        climbs = λ i j x y.
+            upto (λ (j : ℕ). i < j → Present w m t k i → Present w m t k j → addressOf (entry w m t k i) < addressOf (entry w m t k j)) l
+            (λ j y x. h .climbs i j x y)
+            (λ x p q. omega (arith, h .below i x p))
+            j
+            y
+            x;
+      }
+
+  -- A LEVEL OF TABLES, with n tables before it
+
+  module _ (k : Kind) (table : (s : State) (l a : ℕ) → after k s l a ≡ afterTable s a)
+      (room : (s : State) (l a : ℕ) → AllHold (ownRules k m s l a) → s .tables < mostTables) (a n : ℕ) where
+    record Tables (s : State) (l : ℕ) : Type 0 where
+      pub met : Met k a (s .last) l
+      pub tables : s .tables ≡ n + presentBelow (entry w m t k) l
+      pub most : s .tables ≤ mostTables
+      pub first : s .first ≡ 0
+      pub count : s .count ≡ 0
+
+    tables-absent : (s : State) (l : ℕ) → Tables s l → presentOf (entry w m t k l) ≡ false → Tables s (suc l)
+    tables-absent s l h e =
+        record {
+          met = met-absent k a (s .last) l (h .met) e;
+          tables = rw (below-absent (entry w m t k) l e) (h .tables);
+          most = h .most;
+          first = h .first;
+          count = h .count;
+        }
+
+    tables-next : (s : State) (l : ℕ) → Tables s l → Present w m t k l → AllHold (entryRules k (window w m t) m s l (entry w m t k l))
+        → Tables (after k s l (addressOf (entry w m t k l))) (suc l)
+    tables-next s l h e r =
+        let g = fine-exactly w m t k s l (entry w m t k l) .0 r in
+        rw (table s l (addressOf (entry w m t k l)))
+        (record {
+          met = met-next k a (s .last) l (h .met) (g .sound) (g .above);
+          tables = omega (arith, below-present (entry w m t k) l e, h .tables);
+          most = omega (arith, room s l (addressOf (entry w m t k l)) (g .own));
+          first = h .first;
+          count = h .count;
+        })
+
+    tables-end : (s : State) → s .last ≡ a → s .tables ≡ n → n ≤ mostTables → s .first ≡ 0 → s .count ≡ 0
+        → AllHold (rulesFrom (window w m t) m s (foundFrom k (entry w m t k) 0 (levelSize k)))
+        → Tables (afterAll s (foundFrom k (entry w m t k) 0 (levelSize k))) (levelSize k)
+    tables-end s q e b f c h =
+        let o : 0 + levelSize k ≡ levelSize k = omega arith in
+        let none : Tables s 0 = record { met = rw q (met-none k a); tables = omega (arith, below-none (entry w m t k)); most = omega arith; first = f; count = c } in
+        rw o at (kept k (window w m t) m (entry w m t k) Tables tables-absent tables-next (levelSize k) s 0 none h)
+
+  -- THE LEVEL OF PAGES
+
+  module _ (a : ℕ) where
+    record Pages (s : State) (l : ℕ) : Type 0 where
+      pub met : Met Page a (s .last) l
+      pub present : (i : ℕ) → s .first ≤ i → i < s .first + s .count → Present w m t Page i
+      pub only : (i : ℕ) → i < l → Present w m t Page i → (s .first ≤ i) × (i < s .first + s .count)
+      pub noPage : s .count ≡ 0 → s .first ≡ 0
+      pub protected : (i : ℕ) → i < l → Present w m t Page i → Some (Within (named w m t Page i)) (regions m)
+
+    pages-absent : (s : State) (l : ℕ) → Pages s l → presentOf (entry w m t Page l) ≡ false → Pages s (suc l)
+    pages-absent s l h e =
+        record {
+          met = met-absent Page a (s .last) l (h .met) e;
+          present = h .present;
+          only = upto (λ (i : ℕ). Present w m t Page i → (s .first ≤ i) × (i < s .first + s .count)) l (h .only) (λ p. never p);
+          noPage = h .noPage;
+          protected = upto (λ (i : ℕ). Present w m t Page i → Some (Within (named w m t Page i)) (regions m)) l (h .protected) (λ p. never p);
+        }
+      where
+        never : {A : Type 0} → Present w m t Page l → A
+        never p = absurd (true≢false (sym p ∙ e))
+
+    pages-next : (s : State) (l : ℕ) → Pages s l → Present w m t Page l → AllHold (entryRules Page (window w m t) m s l (entry w m t Page l))
+        → Pages (afterPage s l (addressOf (entry w m t Page l))) (suc l)
+    pages-next s l h e r = by (eqb (s .count) 0) refl
+      where
+        g : Fine w m t Page s l (entry w m t Page l)
+        g = fine-exactly w m t Page s l (entry w m t Page l) .0 r
+
+        -- with a first page b and n pages before this one
+        with-first : (b n : ℕ) → l ≡ b + n → ((i : ℕ) → b ≤ i → i < l → Present w m t Page i)
+            → ((i : ℕ) → i < l → Present w m t Page i → (b ≤ i) × (i < b + n))
+            → Pages (record { last = addressOf (entry w m t Page l); tables = s .tables; first = b; count = n + 1 }) (suc l)
+        with-first b n q p o =
+            record {
+              met = met-next Page a (s .last) l (h .met) (g .sound) (g .above);
+              present = λ i x y. upto (λ (i : ℕ). b ≤ i → Present w m t Page i) l (λ i y x. p i x y) (λ x. e) i (omega arith) x;
+              only = upto (λ (i : ℕ). Present w m t Page i → (b ≤ i) × (i < b + (n + 1))) l
+                  (λ i x u. let v = o i x u in omega arith)
+                  (λ u. omega arith);
+              noPage = λ z. absurd (omega arith);
+              protected = upto (λ (i : ℕ). Present w m t Page i → Some (Within (named w m t Page i)) (regions m)) l (h .protected)
+                  (λ p. protected-exactly m (addressOf (entry w m t Page l)) .0 (g .own .1 .0));
+            }
+
+        by : (none : Bool) → eqb (s .count) 0 ≡ none
+            → Pages (record { last = addressOf (entry w m t Page l); tables = s .tables; first = cond none l (s .first); count = s .count + 1 }) (suc l)
+        by true z =
+            let c : s .count ≡ 0 = eqb-true _ _ z in
+            with-first l (s .count) (omega arith) (λ i x y. absurd (omega arith)) (λ i x u. let v = h .only i x u in absurd (omega arith))
+        by false z =
+            let q : l ≡ s .first + s .count = ⊎-elim (λ c. absurd (eqb-false _ _ z c)) (λ q. q) (follows-exactly s l .0 (g .own .0)) in
+            with-first (s .first) (s .count) q (λ i x y. h .present i x (omega arith)) (h .only)
+
+    pages-end : (s : State) → s .last ≡ a → s .first ≡ 0 → s .count ≡ 0
+        → AllHold (rulesFrom (window w m t) m s (foundFrom Page (entry w m t Page) 0 (levelSize Page)))
+        → Pages (afterAll s (foundFrom Page (entry w m t Page) 0 (levelSize Page))) (levelSize Page)
+    pages-end s q f c h =
+        let o : 0 + levelSize Page ≡ levelSize Page = omega arith in
+        let none : Pages s 0 = record {
+          met = rw q (met-none Page a);
+          present = λ i x y. absurd (omega arith);
+          only = λ i x. absurd (omega arith);
+          noPage = λ z. f;
+          protected = λ i x. absurd (omega arith);
+        } in
+        rw o at (kept Page (window w m t) m (entry w m t Page) Pages pages-absent pages-next (levelSize Page) s 0 none h)
+
+  -- ALL LEVELS
+
+  module _ (h : AllHold (walkRules w m t)) where
+    hold : Stages w m t
+    hold = stages w m t .0 h
+
+    full : (s : State) (l a : ℕ) → AllHold (ownRules Pointer m s l a) → s .tables < mostTables
+    full s l a r = ltb-true _ _ (r .0)
+
+    first : Tables Pointer (λ s l a. refl) full t 1 (afterPointers w m t) (levelSize Pointer)
+    first = tables-end Pointer (λ s l a. refl) full t 1 (startOf t) refl refl (omega arith) refl refl (hold .pointers)
+
+    second : Tables Directory (λ s l a. refl) full (afterPointers w m t .last) (afterPointers w m t .tables) (afterDirectories w m t) (levelSize Directory)
+    second =
+        tables-end Directory (λ s l a. refl) full (afterPointers w m t .last) (afterPointers w m t .tables) (afterPointers w m t) refl refl
+        (first .most)
+        (first .first)
+        (first .count)
+        (hold .directories)
+
+    third : Pages (afterDirectories w m t .last) (metOf w m t) (levelSize Page)
+    third =
+        rw (met-last w m t)
+        (pages-end (afterDirectories w m t .last) (afterDirectories w m t) refl (second .first) (second .count) (hold .pages))
+
+    inLevel : (k : Kind) (l : ℕ) → Present w m t k l → l < levelSize k
+    inLevel k l p = in-level w (m .window) t k l p
+
+    sounds : (k : Kind) (l : ℕ) → Present w m t k l → Sound w m t k (entry w m t k l)
+    sounds Pointer l p = first .met .sound l (inLevel Pointer l p) p
+    sounds Directory l p = second .met .sound l (inLevel Directory l p) p
+    sounds Page l p = third .met .sound l (inLevel Page l p) p
+
+    above : (k : Kind) (l : ℕ) → Present w m t k l → t < addressOf (entry w m t k l)
+    above Pointer l p = first .met .above l (inLevel Pointer l p) p
+    above Directory l p = omega (arith, first .met .least, second .met .above l (inLevel Directory l p) p)
+    above Page l p = omega (arith, first .met .least, second .met .least, third .met .above l (inLevel Page l p) p)
+
+    climbs : (j k : Kind) (i l : ℕ) → Present w m t j i → Present w m t k l → position j i < position k l
+        → addressOf (entry w m t j i) < addressOf (entry w m t k l)
+    climbs Pointer Pointer i l p q o = first .met .climbs i l (omega arith) (inLevel Pointer l q) p q
+    climbs Pointer Directory i l p q o =
+        omega (arith, first .met .below i (inLevel Pointer i p) p, second .met .above l (inLevel Directory l q) q)
+    climbs Pointer Page i l p q o =
+        omega (arith, first .met .below i (inLevel Pointer i p) p, second .met .least, third .met .above l (inLevel Page l q) q)
+    climbs Directory Pointer i l p q o = absurd (omega (arith, inLevel Pointer l q))
+    climbs Directory Directory i l p q o = second .met .climbs i l (omega arith) (inLevel Directory l q) p q
+    climbs Directory Page i l p q o =
+        omega (arith, second .met .below i (inLevel Directory i p) p, third .met .above l (inLevel Page l q) q)
+    climbs Page Pointer i l p q o = absurd (omega (arith, inLevel Pointer l q))
+    climbs Page Directory i l p q o = absurd (omega (arith, inLevel Directory l q))
+    climbs Page Page i l p q o = third .met .climbs i l (omega arith) (inLevel Page l q) p q
+
+    pub walks : Walks w m t (metOf w m t .first) (metOf w m t .count)
+    walks =
+        let base = base-exactly w m t .0 (hold .base) in
+        record {
+          aligned = base .0;
+          basePlaced = base .1;
+          reserved = λ k l p. sounds k l p .reserved;
+          placed = λ k l p. sounds k l p .placed;
+          above = above;
+          climbs = climbs;
+          tables = omega (arith, first .tables, second .tables, second .most);
+          pages = third .present;
+          only = λ l p. third .only l (inLevel Page l p) p;
+          noPage = third .noPage;
+          protected = λ l p. third .protected l (inLevel Page l p) p;
+        }

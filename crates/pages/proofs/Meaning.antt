@@ -1,0 +1,115 @@
+-- The walk maps pages exactly where all rules hold with them, refuses with the number of the first rule that fails, and what it maps lies where it may.
+use Prim.Native.Nat.{ℕ, zero, suc, _+_, _%_, _<_}
+use mathlib.Core.Path.{_≡_, refl, sym}
+use mathlib.Core.Logic.{_↔_, _≢_}
+use mathlib.Core.Bool.{Bool, true, false}
+use mathlib.Core.List.{List}
+use native.Mathlib.Omega.{arith}
+use borrow.Author.Tests.{ltb-true, ltb-false}
+use lib.Dec.{ltb}
+use Rattle.range.specs.Rules.{firstFailing}
+use Rattle.range.proofs.Rules.{all-exactly, first-exactly}
+use Rattle.pages.specs.declared.Kind.{Kind}
+use Rattle.pages.specs.declared.Kind.the-variants.{Pointer, Directory, Page}
+use Rattle.pages.specs.declared.Memory.{Memory}
+use Rattle.pages.specs.declared.levels.State.{State}
+use Rattle.pages.specs.declared.WalkAnswer.the-variants.{Mapped, Refused}
+use Rattle.pages.specs.Entry.{addressOf}
+use Rattle.pages.specs.Memory.{pageSize, pageOf}
+use Rattle.pages.specs.Rules.{walkRules, metOf, answerOf, walkOf, numberOf}
+use Rattle.pages.specs.Meaning.{Apart, position, entry, Present, named, Walks, MappedExactly, RefusedExactly, FoundByWalk}
+use Rattle.pages.proofs.Found.{in-level}
+use Rattle.pages.proofs.Turns.{walk-numbered}
+use Rattle.pages.proofs.Holding.{walks}
+use Rattle.pages.proofs.Permits.{permits, walks-unique}
+
+-- AN ANSWER AND ITS NUMBER
+
+different : {f n k : ℕ} → Mapped f n ≡ Refused k → ⊥
+different e = let z : _≡_ {A = ℕ} 0 1 = cc in omega arith
+
+pub mapped-answer : (k : ℕ) (s : State) (f n : ℕ) → (answerOf k s ≡ Mapped f n) ↔ ((k ≡ 0) × ((s .first ≡ f) × (s .count ≡ n)))
+unfolding answerOf
+mapped-answer zero s f n = (λ e. let a : s .first ≡ f = cc in let b : s .count ≡ n = cc in (refl, (a, b)), λ h. rw (h .1 .0, h .1 .1))
+mapped-answer (suc k) s f n = (λ e. absurd (different (sym e)), λ h. absurd (omega arith))
+
+pub refused-answer : (k : ℕ) (s : State) (n : ℕ) → (answerOf k s ≡ Refused n) ↔ ((0 < n) × (k ≡ n))
+unfolding answerOf
+refused-answer zero s n = (λ e. absurd (different e), λ h. absurd (omega arith))
+refused-answer (suc k) s n = (λ e. let h : suc k ≡ n = cc in (omega arith, h), λ h. rw (h .1))
+
+number-of : (k : ℕ) (s : State) → numberOf (answerOf k s) ≡ k
+unfolding answerOf
+number-of zero s = refl
+number-of (suc k) s = refl
+
+-- the number of the answer is that of the first rule that fails
+pub number-is-first : (w : List ℕ) (m : Memory) (t : ℕ) → numberOf (walkOf w m t) ≡ firstFailing (walkRules w m t)
+unfolding walkOf
+number-is-first w m t = number-of (firstFailing (walkRules w m t)) (metOf w m t)
+
+pub mapped-exactly : MappedExactly
+unfolding walkOf
+mapped-exactly w m t f n =
+    let answer = mapped-answer (firstFailing (walkRules w m t)) (metOf w m t) f n in
+    let passed = all-exactly (walkRules w m t) (walk-numbered w m t) in (
+      λ e. let a = answer .0 e in rw (a .1 .0, a .1 .1) at (walks w m t (passed .0 (a .0))),
+      λ h.
+          let all = permits w m t f n h in
+          answer .1 (passed .1 all, walks-unique w m t _ _ f n (walks w m t all) h),
+    )
+
+pub refused-exactly : RefusedExactly
+unfolding walkOf
+refused-exactly w m t n =
+    let answer = refused-answer (firstFailing (walkRules w m t)) (metOf w m t) n in (
+      λ e. let a = answer .0 e in (a .0, first-exactly (walkRules w m t) n (a .0) .0 (a .1)),
+      λ h. answer .1 (h .0, first-exactly (walkRules w m t) n (h .0) .1 (h .1)),
+    )
+
+-- WHAT WAS FOUND
+
+-- every address is a multiple of the page size
+on-page : (e : ℕ) → addressOf e % pageSize ≡ 0
+unfolding addressOf
+on-page e = omega arith
+
+-- pages at two such multiples have no byte in common
+apart : (a b : ℕ) → a % pageSize ≡ 0 → b % pageSize ≡ 0 → a ≢ b → Apart (pageOf a) (pageOf b)
+apart a b p q different x y z = different (omega arith)
+
+pub found-by-walk : FoundByWalk
+found-by-walk w m t f n e = record {
+  present = there;
+  only = h .only;
+  climb = climb;
+  inside = λ k x. h .placed Page (f + k) (there k x) .inside;
+  apart = pair;
+  base = λ k x. apart _ t (on-page _) (h .aligned) (λ z. omega (arith, h .above Page (f + k) (there k x)));
+  directories = λ k i x p. table Pointer k i x p (omega (arith, in-level w (m .window) t Pointer i p));
+  pageTables = λ k i x p. table Directory k i x p (omega (arith, in-level w (m .window) t Directory i p));
+  clear = λ k x. h .placed Page (f + k) (there k x) .clear;
+  protected = λ k x. h .protected (f + k) (there k x);
+}
+  where
+    h : Walks w m t f n
+    h = mapped-exactly w m t f n .0 e
+
+    there : (k : ℕ) → k < n → Present w m t Page (f + k)
+    there k x = h .pages (f + k) (omega arith) (omega arith)
+
+    climb : (j k : ℕ) → j < k → k < n → addressOf (entry w m t Page (f + j)) < addressOf (entry w m t Page (f + k))
+    climb j k x y = h .climbs Page Page (f + j) (f + k) (there j (omega arith)) (there k y) (omega arith)
+
+    differ : (j k : ℕ) → j < n → k < n → j ≢ k → addressOf (entry w m t Page (f + j)) ≢ addressOf (entry w m t Page (f + k))
+    differ j k x y d z = by (ltb j k) refl
+      where
+        by : (b : Bool) → ltb j k ≡ b → ⊥
+        by true o = omega (arith, climb j k (ltb-true j k o) y)
+        by false o = let l = ltb-false j k o in let g : k < j = omega (arith, d) in omega (arith, climb k j g x)
+
+    pair : (j k : ℕ) → j < n → k < n → j ≢ k → Apart (named w m t Page (f + j)) (named w m t Page (f + k))
+    pair j k x y d = apart _ _ (on-page _) (on-page _) (differ j k x y d)
+
+    table : (j : Kind) (k i : ℕ) → k < n → Present w m t j i → position j i < position Page (f + k) → Apart (named w m t Page (f + k)) (named w m t j i)
+    table j k i x p o = apart _ _ (on-page _) (on-page _) (λ z. omega (arith, h .climbs j Page i (f + k) p (there k x) o))

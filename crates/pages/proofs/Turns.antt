@@ -1,0 +1,218 @@
+-- Entries tried in turn: the number is that of the first rule that fails, of all rules in order, and where it is 0 what was met is what all entries leave.
+use Prim.Native.Nat.{ℕ, zero, suc, _+_, _*_, _≤_, _<_}
+use mathlib.Core.Path.{_≡_, refl, sym, ap, _∙_}
+use mathlib.Core.Bool.{Bool, true, false, not, cond}
+use mathlib.Core.List.{List, [], _∷_, _++_, append-nil, append-assoc}
+use native.Mathlib.Omega.{arith}
+use borrow.Author.Tests.{ltb-true}
+use lib.Dec.{lit<, eqb}
+use Rattle.range.specs.declared.Range.{Range}
+use Rattle.range.specs.Rules.{Rule, firstFailing, AllHold, Numbered}
+use Rattle.range.proofs.Rules.{all-exactly, numbered-append}
+use Rattle.pages.specs.declared.Kind.{Kind}
+use Rattle.pages.specs.declared.Kind.the-variants.{Pointer, Directory, Page}
+use Rattle.pages.specs.declared.Memory.{Memory}
+use Rattle.pages.specs.declared.levels.Run.{Run}
+use Rattle.pages.specs.declared.levels.State.{State}
+use Rattle.pages.specs.Entry.{presentOf, addressOf}
+use Rattle.pages.specs.declared.WalkAnswer.the-variants.{Mapped, Refused}
+use Rattle.pages.specs.Memory.{windowOf}
+use Rattle.pages.specs.Tables.{Found, entries, foundOf, foundOne, foundFrom, foundIn, found}
+use Rattle.pages.specs.Rules.{startOf, after, afterEntry, afterAll, baseRules, ownRules, entryRules, rulesFrom, walkRules, metOf, answerOf, walkOf}
+use Rattle.pages.specs.Inner.{Room, orElse, Tried}
+use Rattle.pages.proofs.Found.{found-append, found-last}
+use Rattle.pages.proofs.Tests.{follows-room}
+
+-- NUMBERS IN ORDER
+
+or-else-number : (n later : ℕ) → 0 < n → orElse n later ≡ n
+or-else-number zero later z = absurd (omega arith)
+or-else-number (suc n) later z = refl
+
+pub first-append : (rs qs : List Rule) → Numbered rs → firstFailing (rs ++ qs) ≡ orElse (firstFailing rs) (firstFailing qs)
+first-append [] qs z = refl
+first-append (r ∷ rs) qs z = by (r .holds) (first-append rs qs (z .1))
+  where
+    by : (b : Bool) → firstFailing (rs ++ qs) ≡ orElse (firstFailing rs) (firstFailing qs)
+        → cond b (firstFailing (rs ++ qs)) (r .number) ≡ orElse (cond b (firstFailing rs) (r .number)) (firstFailing qs)
+    by true e = e
+    by false e = sym (or-else-number (r .number) (firstFailing qs) (z .0))
+
+module _ (window : Range) (m : Memory) where
+  own-numbered : (k : Kind) (s : State) (l a : ℕ) → Numbered (ownRules k m s l a)
+  own-numbered Pointer s l a = (lit< tt, tt)
+  own-numbered Directory s l a = (lit< tt, tt)
+  own-numbered Page s l a = (lit< tt, (lit< tt, tt))
+
+  -- no rule of an entry has the number 0
+  pub entry-numbered : (k : Kind) (s : State) (l e : ℕ) → Numbered (entryRules k window m s l e)
+  entry-numbered k s l e = (lit< tt, (lit< tt, (lit< tt, (lit< tt, own-numbered k s l (addressOf e)))))
+
+  pub numbered : (s : State) (es : List Found) → Numbered (rulesFrom window m s es)
+  unfolding rulesFrom
+  numbered s [] = tt
+  numbered s (e ∷ es) =
+      numbered-append (entryRules (e .kind) window m s (e .number) (e .entry)) (rulesFrom window m (afterEntry s e) es)
+      (entry-numbered (e .kind) s (e .number) (e .entry))
+      (numbered (afterEntry s e) es)
+
+  pub rules-append : (s : State) (es fs : List Found) → rulesFrom window m s (es ++ fs) ≡ rulesFrom window m s es ++ rulesFrom window m (afterAll s es) fs
+  unfolding rulesFrom
+  rules-append s [] fs = refl
+  rules-append s (e ∷ es) fs =
+      rw (rules-append (afterEntry s e) es fs)
+      (sym (append-assoc (entryRules (e .kind) window m s (e .number) (e .entry)) (rulesFrom window m (afterEntry s e) es) (rulesFrom window m (afterAll (afterEntry s e) es) fs)))
+
+pub after-append : (s : State) (es fs : List Found) → afterAll s (es ++ fs) ≡ afterAll (afterAll s es) fs
+after-append s [] fs = refl
+after-append s (e ∷ es) fs = after-append (afterEntry s e) es fs
+
+-- ENTRIES TRIED
+
+-- the number of three stages in order
+order : (n a b : ℕ) → orElse (orElse n a) b ≡ orElse n (orElse a b)
+order zero a b = refl
+order (suc n) a b = refl
+
+no-more : (n : ℕ) → n ≡ orElse n 0
+no-more zero = refl
+no-more (suc n) = refl
+
+zero-both : (n a : ℕ) → orElse n a ≡ 0 → (n ≡ 0) × (a ≡ 0)
+zero-both zero a e = (refl, e)
+zero-both (suc n) a e = absurd (omega arith)
+
+module _ (window : Range) (m : Memory) where
+  pub tried-none : (r : Run) → Tried window m r r []
+  unfolding rulesFrom
+  tried-none r = record { number = no-more (r .number); state = λ z. refl }
+
+  -- nothing more is tried after a rule has failed
+  pub tried-refused : (r : Run) (es : List Found) → (r .number ≡ 0 → ⊥) → Tried window m r r es
+  tried-refused r es h = record { number = sym (or-else-number (r .number) _ (omega arith)); state = λ z. absurd (h z) }
+
+  pub tried-then : (r s t : Run) (es fs : List Found) → Tried window m r s es → Tried window m s t fs → Tried window m r t (es ++ fs)
+  tried-then r s t es fs x y = record { number = number; state = state }
+    where
+      first : ℕ
+      first = firstFailing (rulesFrom window m (r .state) es)
+
+      last : ℕ
+      last = firstFailing (rulesFrom window m (afterAll (r .state) es) fs)
+
+      stages : firstFailing (rulesFrom window m (r .state) (es ++ fs)) ≡ orElse first last
+      stages =
+          rw (rules-append window m (r .state) es fs)
+          (first-append (rulesFrom window m (r .state) es) (rulesFrom window m (afterAll (r .state) es) fs) (numbered window m (r .state) es))
+
+      met : (n : ℕ) → s .number ≡ n → orElse n (firstFailing (rulesFrom window m (s .state) fs)) ≡ orElse n last
+      met zero e = rw (x .state e)
+      met (suc n) e = refl
+
+      number : t .number ≡ orElse (r .number) (firstFailing (rulesFrom window m (r .state) (es ++ fs)))
+      number =
+          y .number
+          ∙ met (s .number) refl
+          ∙ ap (λ (n : ℕ). orElse n last) (x .number)
+          ∙ order (r .number) first last
+          ∙ ap (orElse (r .number)) (sym stages)
+
+      state : t .number ≡ 0 → t .state ≡ afterAll (r .state) (es ++ fs)
+      state z =
+          let e = zero-both (s .number) (firstFailing (rulesFrom window m (s .state) fs)) (sym (y .number) ∙ z) .0 in
+          y .state z ∙ rw (x .state e, after-append (r .state) es fs)
+
+  -- ONE ENTRY
+
+  -- the rules of one entry, with none after it
+  single : (k : Kind) (s : State) (l e : ℕ) → firstFailing (rulesFrom window m s (foundOf k l e ∷ [])) ≡ firstFailing (entryRules k window m s l e)
+  unfolding rulesFrom
+  single k s l e = ap firstFailing (append-nil (entryRules k window m s l e))
+
+  module _ (k : Kind) (r : Run) (l e : ℕ) where
+    pub step-absent : presentOf e ≡ false → Tried window m r r (foundOne k l e)
+    step-absent h = rw h (tried-none r)
+
+    pub step-fault : (n : ℕ) → r .number ≡ 0 → presentOf e ≡ true → n ≡ firstFailing (entryRules k window m (r .state) l e) → (n ≡ 0 → ⊥)
+        → Tried window m r (record { number = n; state = r .state }) (foundOne k l e)
+    step-fault n z h f stops =
+        rw h (record { number = rw (z, single k (r .state) l e) f; state = λ y. absurd (stops y) })
+
+    pub step-passed : (s : State) → r .number ≡ 0 → presentOf e ≡ true → firstFailing (entryRules k window m (r .state) l e) ≡ 0 → s ≡ after k (r .state) l (addressOf e)
+        → Tried window m r (record { number = 0; state = s }) (foundOne k l e)
+    step-passed s z h f q = rw h (record { number = rw (z, single k (r .state) l e) (sym f); state = λ y. q })
+
+  -- where an entry breaks no rule, it can be counted
+  pub room : (k : Kind) (s : State) (l e : ℕ) → firstFailing (entryRules k window m s l e) ≡ 0 → Room k s l
+  room k s l e z = by k (all-exactly (entryRules k window m s l e) (entry-numbered window m k s l e) .0 z .1 .1 .1 .1)
+    where
+      by : (k : Kind) → AllHold (ownRules k m s l (addressOf e)) → Room k s l
+      by Pointer h = ltb-true _ _ (h .0)
+      by Directory h = ltb-true _ _ (h .0)
+      by Page h = follows-room s l (h .0)
+
+  -- ENTRIES OF A LEVEL
+
+  module _ (k : Kind) (f : ℕ → ℕ) (r : Run) where
+    -- one entry more
+    pub span-turn : (s t : Run) (l i e : ℕ) → Tried window m r s (foundFrom k f l i) → Tried window m s t (foundOne k (l + i) e) → e ≡ f (l + i)
+        → Tried window m r t (foundFrom k f l (i + 1))
+    span-turn s t l i e x y q = rw (found-last k f l i) (tried-then r s t (foundFrom k f l i) (foundOne k (l + i) (f (l + i))) x (rw q at y))
+
+    -- one table more
+    pub table-turn : (s t : Run) (d : ℕ) → Tried window m r s (foundFrom k f 0 (entries * d)) → Tried window m s t (foundFrom k f (entries * d) entries)
+        → Tried window m r t (foundFrom k f 0 (entries * (d + 1)))
+    table-turn s t d x y =
+        let a : entries * (d + 1) ≡ entries * d + entries = omega arith in
+        let b : 0 + entries * d ≡ entries * d = omega arith in
+        rw (a, found-append k f 0 (entries * d) entries, b) (tried-then r s t (foundFrom k f 0 (entries * d)) (foundFrom k f (entries * d) entries) x y)
+
+-- THE WALK
+
+pub answer-refused : (n : ℕ) (s : State) → (n ≡ 0 → ⊥) → Refused n ≡ answerOf n s
+unfolding answerOf
+answer-refused zero s h = absurd (h refl)
+answer-refused (suc n) s h = refl
+
+pub answer-mapped : (n : ℕ) (s : State) → n ≡ 0 → Mapped (s .first) (s .count) ≡ answerOf n s
+unfolding answerOf
+answer-mapped zero s h = refl
+answer-mapped (suc n) s h = absurd (omega arith)
+
+module _ (w : List ℕ) (m : Memory) (t : ℕ) where
+  abbrev at : Kind → List Found
+  at k = foundIn k w (m .window) t
+
+  abbrev window : Range
+  window = windowOf w (m .window)
+
+  base-numbered : Numbered (baseRules window m t)
+  base-numbered = (lit< tt, (lit< tt, (lit< tt, tt)))
+
+  pub walk-numbered : Numbered (walkRules w m t)
+  unfolding walkRules
+  walk-numbered =
+      numbered-append (baseRules window m t) (rulesFrom window m (startOf t) (found w (m .window) t)) base-numbered
+      (numbered window m (startOf t) (found w (m .window) t))
+
+  module _ (start a b end : Run) (base : start .number ≡ firstFailing (baseRules window m t)) (first : start .state ≡ startOf t)
+      (x : Tried window m start a (at Pointer)) (y : Tried window m a b (at Directory)) (z : Tried window m b end (at Page)) where
+    whole : Tried window m start end (found w (m .window) t)
+    unfolding found
+    whole = tried-then window m start a end (at Pointer) (at Directory ++ at Page) x (tried-then window m a b end (at Directory) (at Page) y z)
+
+    walk-number : end .number ≡ firstFailing (walkRules w m t)
+    unfolding walkRules
+    walk-number =
+        whole .number
+        ∙ rw (base, first) (sym (first-append (baseRules window m t) (rulesFrom window m (startOf t) (found w (m .window) t)) base-numbered))
+
+    pub walk-refused : (end .number ≡ 0 → ⊥) → Refused (end .number) ≡ walkOf w m t
+    unfolding walkOf
+    walk-refused h = answer-refused (end .number) (metOf w m t) h ∙ ap (λ (n : ℕ). answerOf n (metOf w m t)) walk-number
+
+    pub walk-mapped : end .number ≡ 0 → Mapped (end .state .first) (end .state .count) ≡ walkOf w m t
+    unfolding walkOf metOf
+    walk-mapped h =
+        let e : end .state ≡ metOf w m t = rw first at (whole .state h) in
+        rw e (answer-mapped (end .number) (metOf w m t) h ∙ ap (λ (n : ℕ). answerOf n (metOf w m t)) walk-number)

@@ -1,0 +1,64 @@
+-- `own_fault` meets its contract: each kind has its own rules.
+use borrow.Author.Needs.{needs}
+use Rattle.pages.proofs.levels.own_fault.Statement.{statement}
+use Rattle.pages.proofs.levels.own_fault.Tie as tie
+
+enum-told : tie.Need-enum-told
+enum-told c = search needs
+
+unless-requires : tie.Need-unless-requires
+unless-requires c κs = search needs
+
+enum-told-2 : tie.Need-enum-told-2
+enum-told-2 c = search needs
+
+unless-requires-2 : tie.Need-unless-requires-2
+unless-requires-2 c κs = search needs
+
+enum-told-3 : tie.Need-enum-told-3
+enum-told-3 c = search needs
+
+page-follows-requires : tie.Need-page-follows-requires
+page-follows-requires c κs = search needs
+
+is-protected-requires : tie.Need-is-protected-requires
+is-protected-requires c κs = search needs
+
+unless-requires-3 : tie.Need-unless-requires-3
+unless-requires-3 c κs = search needs
+
+unless-requires-4 : tie.Need-unless-requires-4
+unless-requires-4 c κs = search needs
+
+returns : tie.Need-returns
+returns c = simp (c .before .before .enum-told .given .1, c .unless .ensures)
+
+returns-2 : tie.Need-returns-2
+returns-2 c = simp (c .before .before .enum-told2 .given .1, c .unless2 .ensures)
+
+returns-3 : tie.Need-returns-3
+returns-3 c =
+    simp (
+      c .before .before .before .before .enum-told3 .given .1,
+      c .unless4 .ensures,
+      c .before .unless3 .ensures,
+      c .before .before .is-protected .ensures,
+      c .before .before .before .page-follows .ensures,
+    )
+
+pub own-fault-spec : {M : Type 1} → statement M
+own-fault-spec =
+    tie.close
+    (tie.spec
+    enum-told
+    unless-requires
+    enum-told-2
+    unless-requires-2
+    enum-told-3
+    page-follows-requires
+    is-protected-requires
+    unless-requires-3
+    unless-requires-4
+    returns
+    returns-2
+    returns-3)

@@ -1,0 +1,108 @@
+-- What the walk means, as plain statements: `Walked` of a walk that refuses nothing, and `Walks`, the rules that it then obeys, exactly.
+use Prim.Native.Nat.{ℕ, zero, suc, _+_, _*_, _%_, _≤_, _<_}
+use mathlib.Core.Path.{_≡_}
+use mathlib.Core.Logic.{_↔_, _⊎_, _≢_}
+use mathlib.Core.Bool.{true, cond}
+use mathlib.Core.List.{List, [], _∷_}
+use Rattle.range.specs.declared.Range.{Range}
+use Rattle.range.specs.Range.{Has}
+use Rattle.range.specs.Rules.{FirstFails}
+use Rattle.pages.specs.declared.Memory.{Memory}
+use Rattle.pages.specs.declared.Kind.{Kind}
+use Rattle.pages.specs.declared.Kind.the-variants.{Pointer, Directory, Page}
+use Rattle.pages.specs.declared.WalkAnswer.the-variants.{Mapped, Refused}
+use Rattle.pages.specs.Entry.{presentOf, addressOf, reservedClear}
+use Rattle.pages.specs.Memory.{pageSize, pageOf, windowOf, forbidden, regions}
+use Rattle.pages.specs.Tables.{entryAt, levelSize}
+use Rattle.pages.specs.Rules.{mostTables, walkRules, walkOf}
+
+-- RANGES
+
+-- every byte of one is a byte of the other; no byte is in both
+abbrev pub Within : Range → Range → Type 0
+Within a b = (x : ℕ) → Has a x → Has b x
+
+abbrev pub Apart : Range → Range → Type 0
+Apart a b = (x : ℕ) → Has a x → Has b x → ⊥
+
+-- of every range, of some range
+abbrev pub Every : (Range → Type 0) → List Range → Type 0
+Every P [] = Unit
+Every P (r ∷ rs) = P r × Every P rs
+
+abbrev pub Some : (Range → Type 0) → List Range → Type 0
+Some P [] = ⊥
+Some P (r ∷ rs) = P r ⊎ Some P rs
+
+-- ORDER
+
+-- breadth-first order as one number: the level first, then the entry's number in it
+abbrev pub rank : Kind → ℕ
+rank Pointer = 0
+rank Directory = 1
+rank Page = 2
+
+abbrev pub position : Kind → ℕ → ℕ
+position k l = rank k * levelSize Page + l
+
+-- how many of the entries with numbers below n are present
+unfoldable pub presentBelow : (ℕ → ℕ) → ℕ → ℕ
+presentBelow f zero = 0
+presentBelow f (suc n) = presentBelow f n + cond (presentOf (f n)) 1 0
+
+module _ (w : List ℕ) (m : Memory) (t : ℕ) where
+  abbrev pub entry : Kind → ℕ → ℕ
+  entry k l = entryAt k w (m .window) t l
+
+  abbrev pub Present : Kind → ℕ → Type 0
+  Present k l = presentOf (entry k l) ≡ true
+
+  -- the page of memory that an entry names
+  abbrev pub named : Kind → ℕ → Range
+  named k l = pageOf (addressOf (entry k l))
+
+  -- THE RULES. 15 and 17 for the page of memory at an address
+  pub record Placed (page : Range) : Type 0 where
+    pub inside : Within page (windowOf w (m .window))
+    pub clear : Every (Apart page) (forbidden m)
+
+  -- rules 14 to 20 hold, with n pages from linear page f on
+  pub record Walks (f n : ℕ) : Type 0 where
+    pub aligned : t % pageSize ≡ 0
+    pub basePlaced : Placed (pageOf t)
+    pub reserved : (k : Kind) (l : ℕ) → Present k l → reservedClear k (entry k l) ≡ true
+    pub placed : (k : Kind) (l : ℕ) → Present k l → Placed (named k l)
+    pub above : (k : Kind) (l : ℕ) → Present k l → t < addressOf (entry k l)
+    pub climbs : (j k : Kind) (i l : ℕ) → Present j i → Present k l → position j i < position k l → addressOf (entry j i) < addressOf (entry k l)
+    pub tables : 1 + presentBelow (entry Pointer) (levelSize Pointer) + presentBelow (entry Directory) (levelSize Directory) ≤ mostTables
+    pub pages : (l : ℕ) → f ≤ l → l < f + n → Present Page l
+    pub only : (l : ℕ) → Present Page l → (f ≤ l) × (l < f + n)
+    -- where there is no page the first is 0
+    pub noPage : n ≡ 0 → f ≡ 0
+    pub protected : (l : ℕ) → Present Page l → Some (Within (named Page l)) (regions m)
+
+  -- WHAT WAS FOUND. The n pages from linear page f on are found through the tables, and no others
+  pub record Walked (f n : ℕ) : Type 0 where
+    pub present : (k : ℕ) → k < n → Present Page (f + k)
+    pub only : (l : ℕ) → Present Page l → (f ≤ l) × (l < f + n)
+    pub climb : (j k : ℕ) → j < k → k < n → addressOf (entry Page (f + j)) < addressOf (entry Page (f + k))
+    pub inside : (k : ℕ) → k < n → Within (named Page (f + k)) (windowOf w (m .window))
+    -- no page overlaps another page, the base or another table
+    pub apart : (j k : ℕ) → j < n → k < n → j ≢ k → Apart (named Page (f + j)) (named Page (f + k))
+    pub base : (k : ℕ) → k < n → Apart (named Page (f + k)) (pageOf t)
+    pub directories : (k i : ℕ) → k < n → Present Pointer i → Apart (named Page (f + k)) (named Pointer i)
+    pub pageTables : (k i : ℕ) → k < n → Present Directory i → Apart (named Page (f + k)) (named Directory i)
+    pub clear : (k : ℕ) → k < n → Every (Apart (named Page (f + k))) (forbidden m)
+    pub protected : (k : ℕ) → k < n → Some (Within (named Page (f + k))) (regions m)
+
+-- pages are mapped exactly where the rules hold with them
+abbrev pub MappedExactly : Type 0
+MappedExactly = (w : List ℕ) (m : Memory) (t f n : ℕ) → (walkOf w m t ≡ Mapped f n) ↔ Walks w m t f n
+
+-- a number is answered exactly where the first rule that fails, of the base and of all entries in turn, has it
+abbrev pub RefusedExactly : Type 0
+RefusedExactly = (w : List ℕ) (m : Memory) (t n : ℕ) → (walkOf w m t ≡ Refused n) ↔ ((0 < n) × FirstFails (walkRules w m t) n)
+
+-- what a walk that refuses nothing has found
+abbrev pub FoundByWalk : Type 0
+FoundByWalk = (w : List ℕ) (m : Memory) (t f n : ℕ) → walkOf w m t ≡ Mapped f n → Walked w m t f n

@@ -1,0 +1,48 @@
+-- Pages of memory: inside the window, clear of what is forbidden, protected. "Forbidden" and "protected" are one definition each.
+use Prim.Native.Nat.{ℕ}
+use mathlib.Core.Bool.{Bool, true, false, _&&_, _||_}
+use mathlib.Core.List.{List, [], _∷_}
+use lib.ListN.{length}
+use Rattle.range.specs.declared.Range.{Range}
+use Rattle.range.specs.Range.{insideOf, clearOf}
+use Rattle.pages.specs.declared.Memory.{Memory}
+
+abbrev pub pageSize : ℕ
+pageSize = 4096
+
+-- "Each stands for 4,096 bytes"
+abbrev pub pageOf : ℕ → Range
+pageOf a = record { base = a; size = pageSize }
+
+-- "A physical address p is byte p minus window base of the window."
+abbrev pub windowOf : List ℕ → ℕ → Range
+windowOf w base = record { base = base; size = length w }
+
+-- "0xA0000 to 0xFFFFF"
+abbrev pub hole : Range
+hole = record { base = 0xA0000; size = 0x60000 }
+
+-- "clear of 0xA0000 to 0xFFFFF, of the heap and of the module"
+abbrev pub forbidden : Memory → List Range
+forbidden m = hole ∷ m .heap ∷ m .sinit ∷ []
+
+-- "DPR, the low PMR or the high PMR"
+abbrev pub regions : Memory → List Range
+regions m = m .dpr ∷ m .low ∷ m .high ∷ []
+
+-- a test holds of every range, of some range
+abbrev pub every : (Range → Bool) → List Range → Bool
+every test [] = true
+every test (r ∷ rs) = test r && every test rs
+
+abbrev pub some : (Range → Bool) → List Range → Bool
+some test [] = false
+some test (r ∷ rs) = test r || some test rs
+
+-- rule 17
+unfoldable pub allowed : Memory → ℕ → Bool
+allowed m a = every (clearOf (pageOf a)) (forbidden m)
+
+-- rule 20: "wholly in"
+unfoldable pub protected : Memory → ℕ → Bool
+protected m a = some (insideOf (pageOf a)) (regions m)

@@ -1,0 +1,99 @@
+-- The rules of the walk, in the order they are tried: those of the base, then those of each entry that is present, in breadth-first order.
+use Prim.Native.Nat.{ℕ, zero, suc, _+_, _%_}
+use mathlib.Core.Bool.{Bool, cond, _||_}
+use mathlib.Core.List.{List, [], _∷_, _++_}
+use lib.Dec.{ltb, eqb}
+use Rattle.range.specs.declared.Range.{Range}
+use Rattle.range.specs.Range.{insideOf}
+use Rattle.range.specs.Rules.{Rule, rule, firstFailing}
+use Rattle.pages.specs.declared.Kind.{Kind}
+use Rattle.pages.specs.declared.Kind.the-variants.{Pointer, Directory, Page}
+use Rattle.pages.specs.declared.Memory.{Memory}
+use Rattle.pages.specs.declared.levels.State.{State}
+use Rattle.pages.specs.declared.WalkAnswer.{WalkAnswer}
+use Rattle.pages.specs.declared.WalkAnswer.the-variants.{Mapped, Refused}
+use Rattle.pages.specs.Entry.{addressOf, reservedClear}
+use Rattle.pages.specs.Memory.{pageSize, pageOf, windowOf, allowed, protected}
+use Rattle.pages.specs.Tables.{Found, found}
+
+-- "a seventeenth table page, the base and directories counted"
+abbrev pub mostTables : ℕ
+mostTables = 16
+
+-- what was met so far: the last address found, how many tables, the first linear page and how many pages. "the first one the base"
+abbrev pub startOf : ℕ → State
+startOf base = record { last = base; tables = 1; first = 0; count = 0 }
+
+abbrev pub afterTable : State → ℕ → State
+afterTable s a = record { last = a; tables = s .tables + 1; first = s .first; count = s .count }
+
+abbrev pub afterPage : State → ℕ → ℕ → State
+afterPage s l a = record { last = a; tables = s .tables; first = cond (eqb (s .count) 0) l (s .first); count = s .count + 1 }
+
+-- after an entry with a number of its level and an address
+abbrev pub after : Kind → State → ℕ → ℕ → State
+after Pointer s l a = afterTable s a
+after Directory s l a = afterTable s a
+after Page s l a = afterPage s l a
+
+abbrev pub afterEntry : State → Found → State
+afterEntry s e = after (e .kind) s (e .number) (addressOf (e .entry))
+
+abbrev pub afterAll : State → List Found → State
+afterAll s [] = s
+afterAll s (e ∷ es) = afterAll (afterEntry s e) es
+
+-- "The base is tried for 14, 15, 17."
+abbrev pub baseRules : Range → Memory → ℕ → List Rule
+baseRules window m base =
+    rule 14 (eqb (base % pageSize) 0)
+    ∷ rule 15 (insideOf (pageOf base) window)
+    ∷ rule 17 (allowed m base)
+    ∷ []
+
+-- "Linear pages follow one another without a gap from the first."
+unfoldable pub follows : State → ℕ → Bool
+follows s l = eqb (s .count) 0 || eqb l (s .first + s .count)
+
+-- "then a table for 18 and a page for 19, 20"
+abbrev pub ownRules : Kind → Memory → State → ℕ → ℕ → List Rule
+ownRules Pointer m s l a = rule 18 (ltb (s .tables) mostTables) ∷ []
+ownRules Directory m s l a = rule 18 (ltb (s .tables) mostTables) ∷ []
+ownRules Page m s l a = rule 19 (follows s l) ∷ rule 20 (protected m a) ∷ []
+
+-- "An entry is tried for 14, 15, 16, 17;" .. "Every address found must exceed the one before it in this breadth-first order"
+abbrev pub entryRules : Kind → Range → Memory → State → ℕ → ℕ → List Rule
+entryRules k window m s l e =
+    rule 14 (reservedClear k e)
+    ∷ rule 15 (insideOf (pageOf (addressOf e)) window)
+    ∷ rule 16 (ltb (s .last) (addressOf e))
+    ∷ rule 17 (allowed m (addressOf e))
+    ∷ ownRules k m s l (addressOf e)
+
+-- the rules of entries in turn
+unfoldable pub rulesFrom : Range → Memory → State → List Found → List Rule
+rulesFrom window m s [] = []
+rulesFrom window m s (e ∷ es) =
+    entryRules (e .kind) window m s (e .number) (e .entry) ++ rulesFrom window m (afterEntry s e) es
+
+-- all rules of the walk from the table base t
+unfoldable pub walkRules : List ℕ → Memory → ℕ → List Rule
+walkRules w m t =
+    baseRules (windowOf w (m .window)) m t ++ rulesFrom (windowOf w (m .window)) m (startOf t) (found w (m .window) t)
+
+-- what was met when all entries were tried
+unfoldable pub metOf : List ℕ → Memory → ℕ → State
+metOf w m t = afterAll (startOf t) (found w (m .window) t)
+
+-- the answer for a number: 0 gives the first linear page and how many there are, every other is a refusal
+unfoldable pub answerOf : ℕ → State → WalkAnswer
+answerOf zero s = Mapped (s .first) (s .count)
+answerOf (suc n) s = Refused (suc n)
+
+unfoldable pub walkOf : List ℕ → Memory → ℕ → WalkAnswer
+walkOf w m t = answerOf (firstFailing (walkRules w m t)) (metOf w m t)
+
+-- the number of an answer
+abbrev pub numberOf : WalkAnswer → ℕ
+numberOf (Mapped first count) = 0
+numberOf (Refused n) = n

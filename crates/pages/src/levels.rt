@@ -1,0 +1,213 @@
+// The walk: the base, then the entries of each level by rising number. Nothing is stored: each entry is found again from the tables.
+use crate::Kind;
+use crate::Memory;
+use crate::WalkAnswer;
+use crate::entry::address;
+use crate::entry::present;
+use crate::entry::reserved_clear;
+use crate::placement::PAGE_SIZE;
+use crate::placement::in_window;
+use crate::placement::is_allowed;
+use crate::placement::is_protected;
+use crate::tables::ENTRIES;
+use crate::tables::POINTERS;
+use crate::tables::directory;
+use crate::tables::entry;
+use range::unless;
+ghost use mathlib.Core.Path.{_≡_};
+ghost use Prim.Native.Nat.{_+_, _*_, _≤_, _<_};
+ghost use Rattle.range.specs.Rules.{firstFailing};
+ghost use Rattle.pages.specs.declared.Kind.the-variants.{Directory, Page};
+ghost use Rattle.pages.specs.Memory.{windowOf};
+ghost use Rattle.pages.specs.Tables.{entries, entryAt, levelSize, foundOne, foundFrom, foundIn};
+ghost use Rattle.pages.specs.Rules.{mostTables, afterTable, afterPage, after, follows, baseRules, ownRules, entryRules, walkOf};
+ghost use Rattle.pages.specs.Inner.{Room, Tried};
+
+const MOST_TABLES: u64 = 16;
+
+const DIRECTORIES: u64 = 2048;
+
+// What was met so far: the last address found, how many tables, the first linear page, how many pages.
+pub struct State {
+    pub last: u64,
+    pub tables: u64,
+    pub first: u32,
+    pub count: u32,
+}
+
+// The number of the rule that failed, 0 so far, and what was met before it.
+pub struct Run {
+    pub number: u32,
+    pub state: State,
+}
+
+// Rule 19: the first page, or the one after the last.
+fn page_follows(s: State, l: u64) -> bool
+    ensures { λ r. ⌜ r ≡ follows s l ⌝ }
+{
+    if s.count == 0 {
+        return true;
+    }
+    if l < s.first as u64 {
+        return false;
+    }
+    l - s.first as u64 == s.count as u64
+}
+
+// The number of the first of a kind's own rules that fails: 18 for a table, 19 and 20 for a page.
+fn own_fault(kind: Kind, m: Memory, s: State, l: u64, a: u64) -> u32
+    ensures { λ r. ⌜ r ≡ firstFailing (ownRules kind m s l a) ⌝ }
+{
+    match kind {
+        Kind::Pointer => unless(s.tables < MOST_TABLES, 18, 0),
+        Kind::Directory => unless(s.tables < MOST_TABLES, 18, 0),
+        Kind::Page => unless(page_follows(s, l), 19, unless(is_protected(m, a), 20, 0)),
+    }
+}
+
+// The number of the first rule that a present entry breaks, 0 where it breaks none.
+fn entry_fault(kind: Kind, w: &[u8], m: Memory, s: State, l: u64, e: u64) -> u32
+    ensures { λ r. ⌜ r ≡ firstFailing (entryRules kind (windowOf (now (w .entry)) (m .window)) m s l e) ⌝ }
+{
+    let a = address(e);
+    let own = own_fault(kind, m, s, l, a);
+    let forbidden = unless(is_allowed(m, a), 17, own);
+    let order = unless(s.last < a, 16, forbidden);
+    let place = unless(in_window(w, m.window, a), 15, order);
+    unless(reserved_clear(kind, e), 14, place)
+}
+
+// The number of the first rule that the base breaks, 0 where it breaks none.
+fn base_fault(w: &[u8], m: Memory, t: u64) -> u32
+    ensures { λ r. ⌜ r ≡ firstFailing (baseRules (windowOf (now (w .entry)) (m .window)) m t) ⌝ }
+{
+    let forbidden = unless(is_allowed(m, t), 17, 0);
+    let place = unless(in_window(w, m.window, t), 15, forbidden);
+    unless(t % PAGE_SIZE == 0, 14, place)
+}
+
+fn with_table(s: State, a: u64) -> State
+    requires { ⌜ s .tables < mostTables ⌝ }
+    ensures { λ r. ⌜ r ≡ afterTable s a ⌝ }
+{
+    State {
+        last: a,
+        tables: s.tables + 1,
+        first: s.first,
+        count: s.count,
+    }
+}
+
+fn with_page(s: State, l: u64, a: u64) -> State
+    requires { ⌜ (s .count ≤ l) × (l < levelSize Page) ⌝ }
+    ensures { λ r. ⌜ r ≡ afterPage s l a ⌝ }
+{
+    let first = if s.count == 0 { l as u32 } else { s.first };
+    State {
+        last: a,
+        tables: s.tables,
+        first,
+        count: s.count + 1,
+    }
+}
+
+// What was met after an entry that breaks no rule.
+fn met(kind: Kind, s: State, l: u64, a: u64) -> State
+    requires { ⌜ Room kind s l × (l < levelSize Page) ⌝ }
+    ensures { λ r. ⌜ r ≡ after kind s l a ⌝ }
+{
+    match kind {
+        Kind::Pointer => with_table(s, a),
+        Kind::Directory => with_table(s, a),
+        Kind::Page => with_page(s, l, a),
+    }
+}
+
+// One entry of a level. Nothing more is tried after a rule has failed.
+fn step(kind: Kind, w: &[u8], m: Memory, r: Run, l: u64, e: u64) -> Run
+    requires { ⌜ l < levelSize Page ⌝ }
+    ensures { λ o. ⌜ Tried (windowOf (now (w .entry)) (m .window)) m r o (foundOne kind l e) ⌝ }
+{
+    if r.number != 0 {
+        return r;
+    }
+    if !present(e) {
+        return r;
+    }
+    let state = r.state;
+    let number = entry_fault(kind, w, m, state, l, e);
+    if number != 0 {
+        return Run { number, state };
+    }
+    let next = met(kind, state, l, address(e));
+    Run {
+        number: 0,
+        state: next,
+    }
+}
+
+// n entries of a level, from number l on.
+fn span(kind: Kind, w: &[u8], m: Memory, t: u64, r: Run, l: u64, n: u64) -> Run
+    requires { ⌜ l + n ≤ levelSize Page ⌝ }
+    ensures { λ o. ⌜ Tried (windowOf (now (w .entry)) (m .window)) m r o (foundFrom kind (entryAt kind (now (w .entry)) (m .window) t) l n) ⌝ }
+{
+    let mut run = r;
+    let mut i: u64 = 0;
+    while i < n {
+        run = step(kind, w, m, run, l + i, entry(kind, w, m.window, t, l + i));
+        i += 1;
+    }
+    run
+}
+
+// The pages of the directory entry d. There are none where the entry is not present.
+fn table(w: &[u8], m: Memory, t: u64, r: Run, d: u64) -> Run
+    requires { ⌜ d < levelSize Directory ⌝ }
+    ensures { λ o. ⌜ Tried (windowOf (now (w .entry)) (m .window)) m r o (foundFrom Page (entryAt Page (now (w .entry)) (m .window) t) (entries * d) entries) ⌝ }
+{
+    if r.number != 0 {
+        return r;
+    }
+    if !present(directory(w, m.window, t, d)) {
+        return r;
+    }
+    span(Kind::Page, w, m, t, r, ENTRIES * d, ENTRIES)
+}
+
+// All pages.
+fn pages(w: &[u8], m: Memory, t: u64, r: Run) -> Run
+    ensures { λ o. ⌜ Tried (windowOf (now (w .entry)) (m .window)) m r o (foundIn Page (now (w .entry)) (m .window) t) ⌝ }
+{
+    let mut run = r;
+    let mut d: u64 = 0;
+    while d < DIRECTORIES {
+        run = table(w, m, t, run, d);
+        d += 1;
+    }
+    run
+}
+
+// The walk of the window w from the table base t.
+pub fn walk(w: &[u8], m: Memory, t: u64) -> WalkAnswer
+    ensures { λ r. ⌜ r ≡ walkOf (now (w .entry)) m t ⌝ }
+{
+    let number = base_fault(w, m, t);
+    let state = State {
+        last: t,
+        tables: 1,
+        first: 0,
+        count: 0,
+    };
+    let start = Run { number, state };
+    let pointers = span(Kind::Pointer, w, m, t, start, 0, POINTERS);
+    let directories = span(Kind::Directory, w, m, t, pointers, 0, DIRECTORIES);
+    let end = pages(w, m, t, directories);
+    if end.number != 0 {
+        return WalkAnswer::Refused(end.number);
+    }
+    let met = end.state;
+    WalkAnswer::Mapped {
+        first: met.first,
+        count: met.count,
+    }
+}

@@ -1,0 +1,66 @@
+// What a page of memory is tried for: inside the window, clear of the forbidden ranges, wholly in a protected region.
+use crate::Memory;
+use range::Range;
+ghost use mathlib.Core.Path.{_≡_};
+ghost use Rattle.range.specs.Range.{insideOf};
+ghost use Rattle.pages.specs.Memory.{pageOf, windowOf, allowed, protected};
+
+pub const PAGE_SIZE: u64 = 4096;
+
+// The first byte of the hole below 1 MiB, and how many bytes it has.
+const HOLE_BASE: u64 = 0xA0000;
+
+const HOLE_SIZE: u64 = 0x60000;
+
+// Whether the page at a lies inside the window w that begins at `base`.
+pub fn in_window(w: &[u8], base: u64, a: u64) -> bool
+    ensures { λ r. ⌜ r ≡ insideOf (pageOf a) (windowOf (now (w .entry)) base) ⌝ }
+{
+    let page = Range {
+        base: a,
+        size: PAGE_SIZE,
+    };
+    let window = Range {
+        base,
+        size: w.len() as u64,
+    };
+    range::inside(page, window)
+}
+
+// Rule 17: clear of the hole, of the heap and of the module.
+pub fn is_allowed(m: Memory, a: u64) -> bool
+    ensures { λ r. ⌜ r ≡ allowed m a ⌝ }
+{
+    let page = Range {
+        base: a,
+        size: PAGE_SIZE,
+    };
+    let hole = Range {
+        base: HOLE_BASE,
+        size: HOLE_SIZE,
+    };
+    if !range::clear(page, hole) {
+        return false;
+    }
+    if !range::clear(page, m.heap) {
+        return false;
+    }
+    range::clear(page, m.sinit)
+}
+
+// Rule 20: wholly in DPR, in the low PMR or in the high PMR.
+pub fn is_protected(m: Memory, a: u64) -> bool
+    ensures { λ r. ⌜ r ≡ protected m a ⌝ }
+{
+    let page = Range {
+        base: a,
+        size: PAGE_SIZE,
+    };
+    if range::inside(page, m.dpr) {
+        return true;
+    }
+    if range::inside(page, m.low) {
+        return true;
+    }
+    range::inside(page, m.high)
+}

@@ -1,5 +1,5 @@
 -- Every case of the table holds: each answer computes to the number expected.
-use mathlib.Core.Path.{_≡_, refl}
+use mathlib.Core.Path.{_≡_}
 use mathlib.Core.Bool.{Bool, true, _&&_, and-eq-true-iff}
 use mathlib.Core.List.{List, [], _∷_}
 use borrow.Author.Tests.{eqb-true}
@@ -11,6 +11,9 @@ use Rattle.heap.specs.Heap.{biosDataSize, osMleDataSize, osSinitDataSize, parts
 use Rattle.sinit.specs.Module.{E, rowOf}
 use Rattle.range.specs.Rules.{all}
 use Rattle.sinit.specs.Rules.{someBelow, inside, place, header, gdt, entry, selector, table, list, revisionMatches, match, listed, supported, moduleOf}
+use Rattle.policy.specs.Grammar.{digestLength, markCharacters}
+use Rattle.policy.specs.Parser as P
+use Rattle.policy.specs.Decode as D
 use Rattle.pages.specs.Entry.{presentOf, addressOf, reservedClear}
 use Rattle.pages.specs.Memory.{allowed, protected}
 use Rattle.pages.specs.Tables.{foundFrom}
@@ -29,7 +32,7 @@ tested [] e = tt
 tested (c ∷ cs) e = let p = and-eq-true-iff _ _ .0 e in (eqb-true _ _ (p .0), tested cs (p .1))
 
 pub all-hold : AllCases cases
-unfolding test bytes number fieldAt valueOf endsBy biosDataSize osMleDataSize osSinitDataSize partsFit osSinitPart fieldsOf versionKnown sizeFits endsWithin lowPlaced highPlaced pmrsPlaced numberOf answerOf heapOf same markedAt insideOf E rowOf all someBelow inside place header gdt entry selector table list revisionMatches match listed supported moduleOf presentOf addressOf reservedClear allowed protected clearOf foundFrom follows rulesFrom
+unfolding test bytes number fieldAt valueOf endsBy biosDataSize osMleDataSize osSinitDataSize partsFit osSinitPart fieldsOf versionKnown sizeFits endsWithin lowPlaced highPlaced pmrsPlaced numberOf answerOf heapOf same markedAt insideOf E rowOf all someBelow inside place header gdt entry selector table list revisionMatches match listed supported moduleOf presentOf addressOf reservedClear allowed protected clearOf foundFrom follows rulesFrom digestLength markCharacters P.after P.continue P._>>=_ P.done P.number P.string P.rest P.exactly P.inside P.times P.many D.launch D.other D.body D.element D.signed D.signing D.list D.file D.reading D.accepted
 all-hold =
     tested cases
     (rw (

@@ -1,6 +1,6 @@
 -- The entries of a window's tables are read without computing over its bytes, so the number of its walk is that of a few rules.
 use Prim.Native.Nat.{ℕ, zero, suc, _+_, _-_, _*_, _/_, _%_, _^_, _≤_, _<_}
-use mathlib.Core.Path.{_≡_, refl, sym, ap, _∙_}
+use mathlib.Core.Path.{_≡_, refl, sym, _∙_}
 use mathlib.Core.Bool.{true}
 use mathlib.Core.List.{List, [], _∷_, _++_, flatMap, append-nil, append-assoc}
 use native.Mathlib.Omega.{arith}
@@ -16,8 +16,8 @@ use Rattle.pages.specs.declared.Kind.{Kind}
 use Rattle.pages.specs.declared.Kind.the-variants.{Pointer, Directory, Page}
 use Rattle.pages.specs.Entry.{presentOf, addressOf}
 use Rattle.pages.specs.Memory.{pageOf, windowOf}
-use Rattle.pages.specs.Tables.{pointers, entries, readOf, underOf, pointerAt, directoryAt, pageAt, Found, foundOf, foundFrom, foundIn, found}
-use Rattle.pages.specs.Rules.{startOf, baseRules, rulesFrom, walkRules, walkOf, numberOf}
+use Rattle.pages.specs.Tables.{readOf, underOf, pointerAt, directoryAt, pageAt, Found, foundOf, foundFrom, foundIn, found}
+use Rattle.pages.specs.Rules.{startOf, baseRules, rulesFrom, walkRules}
 use Rattle.pages.proofs.Tests.{read-inside}
 use Rattle.pages.proofs.Found.{found-listed}
 use Rattle.pages.proofs.Joined.{pages-joined, directories-joined}

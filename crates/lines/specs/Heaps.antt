@@ -3,11 +3,11 @@ use Prim.Native.Nat.{ℕ}
 use mathlib.Core.List.{List, _++_}
 use Rattle.field.specs.Number.{bytes}
 
-abbrev pub element : ℕ → ℕ → List ℕ
-element kind size = bytes 4 kind ++ bytes 4 size
+abbrev pub heapElement : ℕ → ℕ → List ℕ
+heapElement kind size = bytes 4 kind ++ bytes 4 size
 
 abbrev pub endElement : List ℕ
-endElement = element 0 8
+endElement = heapElement 0 8
 
 -- OsSinitData of version 7: its fields, 0 but for the low PMR, and its elements
 abbrev pub osSinitData : ℕ → ℕ → ℕ → List ℕ → List ℕ

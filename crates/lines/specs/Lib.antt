@@ -2,4 +2,5 @@
 pub mod Heaps
 pub mod Modules
 pub mod Windows
+pub mod Policies
 pub mod Table

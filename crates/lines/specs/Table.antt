@@ -6,7 +6,12 @@ use lib.ListN.{take}
 use Rattle.heap.specs.Heap.{numberOf, heapOf}
 use Rattle.sinit.specs.Rules as sinit
 use Rattle.pages.specs.Rules as pages
-use Rattle.lines.specs.Heaps.{element, endElement, osSinitData, heapBytes}
+use Rattle.policy.specs.Parser.{valueOf}
+use Rattle.policy.specs.Decode.{element, accepted}
+use Rattle.policy.specs.Answers.{fileShown}
+use Rattle.policy.specs.Demand3 as policy
+use Rattle.lines.specs.Heaps.{heapElement, endElement, osSinitData, heapBytes}
+use Rattle.lines.specs.Policies.{fileWith, noDigest, sizeOf, namesOf}
 use Rattle.lines.specs.Modules.{moduleWith}
 use Rattle.lines.specs.Windows.{entryOf, windowBase, windowWith, memory}
 
@@ -38,6 +43,10 @@ abbrev pub moduleNumber : ℕ → ℕ
 moduleNumber limit =
     sinit.numberOf (sinit.moduleOf (moduleWith limit) 0x7F000000 0x8000 (record { vendor = 0x8086; device = 0xB001; revision = 5 }) 7)
 
+-- the number for a policy file that says it has so many lists
+abbrev pub fileNumber : ℕ → ℕ
+fileNumber count = policy.numberOf (fileShown (fileWith count) (accepted (fileWith count)))
+
 -- the answer for the walk of a window whose page table has these entries
 unfoldable pub walkNumber : List ℕ → ℕ
 walkNumber entries = pages.numberOf (pages.walkOf (windowWith entries) memory windowBase)
@@ -52,14 +61,20 @@ cases =
     ∷ case 3 (heapNumber (heapBytes 8 7 (osSinitData 108 0 0 endElement))) 2
     ∷ case 3 (heapNumber (heapBytes 8 8 (osSinitData 7 0 0 endElement))) 2
     -- "P4 element size 7: 4."
-    ∷ case 4 (heapNumber (heapBytes 8 8 (osSinitData 116 0 0 (element 1 7 ++ endElement)))) 4
-    ∷ case 4 (heapNumber (heapBytes 8 8 (osSinitData 108 0 0 (element 0 7)))) 4
+    ∷ case 4 (heapNumber (heapBytes 8 8 (osSinitData 116 0 0 (heapElement 1 7 ++ endElement)))) 4
+    ∷ case 4 (heapNumber (heapBytes 8 8 (osSinitData 108 0 0 (heapElement 0 7)))) 4
     -- "P5 low PMR ending at 2^32 passes; P6 one byte more: 5."
     ∷ case 5 (heapNumber (withLowPmr (2 ^ 21))) 0
     ∷ case 6 (heapNumber (withLowPmr (2 ^ 21 + 1))) 5
     -- "P7 SegSel 8 with GDTLimit 23 passes; P8 with 22: 8."
     ∷ case 7 (moduleNumber 23) 0
     ∷ case 8 (moduleNumber 22) 8
+    -- "P11 list count 0 or 9: 27."
+    ∷ case 11 (fileNumber 0) 27
+    ∷ case 11 (fileNumber 9) 27
+    -- "P12 a 0x10 element with count 0 is 18 bytes and names nothing."
+    ∷ case 12 (sizeOf (valueOf (element noDigest))) 18
+    ∷ case 12 (namesOf (valueOf (element noDigest))) 0
     -- "P9 two pages at 0x105000, 0x104000: 16." In the other order they pass.
     ∷ case 9 (walkNumber (entryOf 0x105000 ∷ entryOf 0x104000 ∷ [])) 16
     ∷ case 9 (walkNumber (entryOf 0x104000 ∷ entryOf 0x105000 ∷ [])) 0

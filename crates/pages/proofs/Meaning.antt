@@ -1,5 +1,5 @@
 -- The walk maps pages exactly where all rules hold with them, refuses with the number of the first rule that fails, and what it maps lies where it may.
-use Prim.Native.Nat.{ℕ, zero, suc, _+_, _%_, _<_}
+use Prim.Native.Nat.{ℕ, zero, suc, _+_, _%_, _≤_, _<_}
 use mathlib.Core.Path.{_≡_, refl, sym}
 use mathlib.Core.Logic.{_↔_, _≢_}
 use mathlib.Core.Bool.{Bool, true, false}
@@ -16,6 +16,7 @@ use Rattle.pages.specs.declared.levels.State.{State}
 use Rattle.pages.specs.declared.WalkAnswer.the-variants.{Mapped, Refused}
 use Rattle.pages.specs.Entry.{addressOf}
 use Rattle.pages.specs.Memory.{pageSize, pageOf}
+use Rattle.pages.specs.Tables.{levelSize}
 use Rattle.pages.specs.Rules.{walkRules, metOf, answerOf, walkOf, numberOf}
 use Rattle.pages.specs.Meaning.{Apart, position, entry, Present, named, Walks, MappedExactly, RefusedExactly, FoundByWalk}
 use Rattle.pages.proofs.Found.{in-level}
@@ -58,6 +59,14 @@ mapped-exactly w m t f n =
           let all = permits w m t f n h in
           answer .1 (passed .1 all, walks-unique w m t _ _ f n (walks w m t all) h),
     )
+
+-- the pages that are mapped have numbers of the level
+pub mapped-below : (w : List ℕ) (m : Memory) (t f n : ℕ) → walkOf w m t ≡ Mapped f n → f + n ≤ levelSize Page
+mapped-below w m t f n e = by n (mapped-exactly w m t f n .0 e)
+  where
+    by : (n : ℕ) → Walks w m t f n → f + n ≤ levelSize Page
+    by zero h = omega (arith, h .noPage refl)
+    by (suc n) h = omega (arith, in-level w (m .window) t Page (f + n) (h .pages (f + n) (omega arith) (omega arith)))
 
 pub refused-exactly : RefusedExactly
 unfolding walkOf

@@ -1,11 +1,11 @@
 -- Entries tried in turn: the number is that of the first rule that fails, of all rules in order, and where it is 0 what was met is what all entries leave.
-use Prim.Native.Nat.{ℕ, zero, suc, _+_, _*_, _≤_, _<_}
+use Prim.Native.Nat.{ℕ, zero, suc, _+_, _*_, _<_}
 use mathlib.Core.Path.{_≡_, refl, sym, ap, _∙_}
-use mathlib.Core.Bool.{Bool, true, false, not, cond}
+use mathlib.Core.Bool.{Bool, true, false, cond}
 use mathlib.Core.List.{List, [], _∷_, _++_, append-nil, append-assoc}
 use native.Mathlib.Omega.{arith}
 use borrow.Author.Tests.{ltb-true}
-use lib.Dec.{lit<, eqb}
+use lib.Dec.{lit<}
 use Rattle.range.specs.declared.Range.{Range}
 use Rattle.range.specs.Rules.{Rule, firstFailing, AllHold, Numbered}
 use Rattle.range.proofs.Rules.{all-exactly, numbered-append}
@@ -17,10 +17,11 @@ use Rattle.pages.specs.declared.levels.State.{State}
 use Rattle.pages.specs.Entry.{presentOf, addressOf}
 use Rattle.pages.specs.declared.WalkAnswer.the-variants.{Mapped, Refused}
 use Rattle.pages.specs.Memory.{windowOf}
-use Rattle.pages.specs.Tables.{Found, entries, foundOf, foundOne, foundFrom, foundIn, found}
+use Rattle.pages.specs.Tables.{Found, entries, directoryAt, pageAt, foundOf, foundOne, foundFrom, foundIn, found}
 use Rattle.pages.specs.Rules.{startOf, after, afterEntry, afterAll, baseRules, ownRules, entryRules, rulesFrom, walkRules, metOf, answerOf, walkOf}
 use Rattle.pages.specs.Inner.{Room, orElse, Tried}
 use Rattle.pages.proofs.Found.{found-append, found-last}
+use Rattle.pages.proofs.Joined.{table-absent}
 use Rattle.pages.proofs.Tests.{follows-room}
 
 -- NUMBERS IN ORDER
@@ -167,14 +168,19 @@ module _ (window : Range) (m : Memory) where
         let b : 0 + entries * d ≡ entries * d = omega arith in
         rw (a, found-append k f 0 (entries * d) entries, b) (tried-then r s t (foundFrom k f 0 (entries * d)) (foundFrom k f (entries * d) entries) x y)
 
+-- the pages of a directory entry that is absent leave everything as it was
+pub table-skipped : (window : Range) (m : Memory) (w : List ℕ) (base t d : ℕ) (r : Run) → presentOf (directoryAt w base t d) ≡ false
+    → Tried window m r r (foundFrom Page (pageAt w base t) (entries * d) entries)
+table-skipped window m w base t d r h = rw (table-absent w base t d h) (tried-none window m r)
+
 -- THE WALK
 
-pub answer-refused : (n : ℕ) (s : State) → (n ≡ 0 → ⊥) → Refused n ≡ answerOf n s
+answer-refused : (n : ℕ) (s : State) → (n ≡ 0 → ⊥) → Refused n ≡ answerOf n s
 unfolding answerOf
 answer-refused zero s h = absurd (h refl)
 answer-refused (suc n) s h = refl
 
-pub answer-mapped : (n : ℕ) (s : State) → n ≡ 0 → Mapped (s .first) (s .count) ≡ answerOf n s
+answer-mapped : (n : ℕ) (s : State) → n ≡ 0 → Mapped (s .first) (s .count) ≡ answerOf n s
 unfolding answerOf
 answer-mapped zero s h = refl
 answer-mapped (suc n) s h = absurd (omega arith)

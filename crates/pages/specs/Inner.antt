@@ -18,7 +18,7 @@ Room Pointer s l = s .tables < mostTables
 Room Directory s l = s .tables < mostTables
 Room Page s l = s .count ≤ l
 
--- a number that was given before stands
+-- the number that was given before, or a later one where that is 0
 abbrev pub orElse : ℕ → ℕ → ℕ
 orElse zero later = later
 orElse (suc n) later = suc n

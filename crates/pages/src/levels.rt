@@ -86,6 +86,7 @@ fn base_fault(w: &[u8], m: Memory, t: u64) -> u32
     unless(t % PAGE_SIZE == 0, 14, place)
 }
 
+// What was met after one table more.
 fn with_table(s: State, a: u64) -> State
     requires { ⌜ s .tables < mostTables ⌝ }
     ensures { λ r. ⌜ r ≡ afterTable s a ⌝ }
@@ -98,6 +99,7 @@ fn with_table(s: State, a: u64) -> State
     }
 }
 
+// What was met after one page more: the first one gives the first linear page.
 fn with_page(s: State, l: u64, a: u64) -> State
     requires { ⌜ (s .count ≤ l) × (l < levelSize Page) ⌝ }
     ensures { λ r. ⌜ r ≡ afterPage s l a ⌝ }
@@ -187,7 +189,18 @@ fn pages(w: &[u8], m: Memory, t: u64, r: Run) -> Run
     run
 }
 
-// The walk of the window w from the table base t.
+// All entries of a level.
+fn level(kind: Kind, w: &[u8], m: Memory, t: u64, r: Run) -> Run
+    ensures { λ o. ⌜ Tried (windowOf (now (w .entry)) (m .window)) m r o (foundIn kind (now (w .entry)) (m .window) t) ⌝ }
+{
+    match kind {
+        Kind::Pointer => span(kind, w, m, t, r, 0, POINTERS),
+        Kind::Directory => span(kind, w, m, t, r, 0, DIRECTORIES),
+        Kind::Page => pages(w, m, t, r),
+    }
+}
+
+// The walk of the window w from the table base t: all directory entries come before the first page.
 pub fn walk(w: &[u8], m: Memory, t: u64) -> WalkAnswer
     ensures { λ r. ⌜ r ≡ walkOf (now (w .entry)) m t ⌝ }
 {
@@ -199,9 +212,9 @@ pub fn walk(w: &[u8], m: Memory, t: u64) -> WalkAnswer
         count: 0,
     };
     let start = Run { number, state };
-    let pointers = span(Kind::Pointer, w, m, t, start, 0, POINTERS);
-    let directories = span(Kind::Directory, w, m, t, pointers, 0, DIRECTORIES);
-    let end = pages(w, m, t, directories);
+    let pointers = level(Kind::Pointer, w, m, t, start);
+    let directories = level(Kind::Directory, w, m, t, pointers);
+    let end = level(Kind::Page, w, m, t, directories);
     if end.number != 0 {
         return WalkAnswer::Refused(end.number);
     }

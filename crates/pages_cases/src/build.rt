@@ -2,8 +2,10 @@
 use crate::memories::ORIGIN;
 ghost use Prim.Native.Nat.{_+_, _<_, _≤_};
 
-// The bytes of a window.
-pub type Window = [u8; 98304];
+// How many bytes a window has.
+pub const WINDOW_SIZE: usize = 98304;
+
+pub type Window = [u8; WINDOW_SIZE];
 
 const PAGE_SIZE: usize = 4096;
 

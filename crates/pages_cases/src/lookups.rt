@@ -3,6 +3,7 @@ use crate::build::BASE;
 use crate::build::DIRECTORY;
 use crate::build::POINTERS;
 use crate::build::TABLE;
+use crate::build::WINDOW_SIZE;
 use crate::build::Window;
 use crate::build::entry;
 use crate::build::put;
@@ -23,7 +24,7 @@ fn show_page(w: &Window, origin: u64, t: u64, l: u64) {
 
 // Pointer 2, directory entry 7 and entry 9 of the page table, so the linear page 2 · 2^18 + 7 · 2^9 + 9.
 fn show_numbers() {
-    let mut w = [0u8; 98304];
+    let mut w = [0u8; WINDOW_SIZE];
     put(&mut w, POINTERS, 2, entry(ORIGIN, 2));
     put(&mut w, DIRECTORY, 7, entry(ORIGIN, 3));
     put(&mut w, TABLE, 9, entry(ORIGIN, 4));

@@ -2,6 +2,7 @@
 use crate::build::DIRECTORY;
 use crate::build::POINTERS;
 use crate::build::TABLE;
+use crate::build::WINDOW_SIZE;
 use crate::build::entry;
 use crate::build::fill;
 use crate::build::put;
@@ -18,14 +19,14 @@ ghost use Prim.Native.Nat.{_<_, _≤_};
 fn show_pair(a: u64, b: u64)
     requires { ⌜ (a < 0x1000) × (b < 0x1000) ⌝ }
 {
-    let mut w = [0u8; 98304];
+    let mut w = [0u8; WINDOW_SIZE];
     two_pages(&mut w, a, b);
     show(&w);
 }
 
 // A page that is neither above the last one nor clear of the heap, then tables that are not above the tables before them.
 fn show_tables_below() {
-    let mut w = [0u8; 98304];
+    let mut w = [0u8; WINDOW_SIZE];
     two_pages(&mut w, 5, 4);
     show_heap(&w, 0x10_4000, 0x1000);
     put(&mut w, DIRECTORY, 0, entry(ORIGIN, 2));
@@ -51,7 +52,7 @@ pub fn show_orders() {
 fn show_tables(n: usize, last: u64)
     requires { ⌜ n < 20 ⌝ }
 {
-    let mut w = [0u8; 98304];
+    let mut w = [0u8; WINDOW_SIZE];
     with_tables(&mut w, n);
     put(&mut w, DIRECTORY, n, last);
     put(&mut w, TABLE, 0, entry(ORIGIN, 20));
@@ -62,7 +63,7 @@ fn show_tables(n: usize, last: u64)
 fn show_directories(n: usize)
     requires { ⌜ n ≤ 12 ⌝ }
 {
-    let mut w = [0u8; 98304];
+    let mut w = [0u8; WINDOW_SIZE];
     put(&mut w, POINTERS, 0, entry(ORIGIN, 2));
     put(&mut w, POINTERS, 1, entry(ORIGIN, 3));
     put(&mut w, POINTERS, 2, entry(ORIGIN, 4));
@@ -86,7 +87,7 @@ pub fn show_counts() {
 fn show_indices(a: usize, second: usize, b: usize)
     requires { ⌜ (a < 512) × (second < 24) × (b < 512) ⌝ }
 {
-    let mut w = [0u8; 98304];
+    let mut w = [0u8; WINDOW_SIZE];
     with_tables(&mut w, 2);
     put(&mut w, TABLE, a, entry(ORIGIN, 20));
     put(&mut w, second, b, entry(ORIGIN, 21));
@@ -97,7 +98,7 @@ fn show_indices(a: usize, second: usize, b: usize)
 fn show_gibibyte(index: usize)
     requires { ⌜ index < 512 ⌝ }
 {
-    let mut w = [0u8; 98304];
+    let mut w = [0u8; WINDOW_SIZE];
     put(&mut w, POINTERS, 0, entry(ORIGIN, 2));
     put(&mut w, POINTERS, 1, entry(ORIGIN, 3));
     put(&mut w, 2, 511, entry(ORIGIN, 4));
@@ -111,7 +112,7 @@ fn show_gibibyte(index: usize)
 fn show_runs(index: usize)
     requires { ⌜ index < 511 ⌝ }
 {
-    let mut w = [0u8; 98304];
+    let mut w = [0u8; WINDOW_SIZE];
     two_pages(&mut w, 4, 5);
     put(&mut w, TABLE, index, entry(ORIGIN, 6));
     put(&mut w, TABLE, index + 1, entry(ORIGIN, 7));
@@ -120,7 +121,7 @@ fn show_runs(index: usize)
 
 // No page, and one page at the highest number.
 fn show_ends() {
-    let mut w = [0u8; 98304];
+    let mut w = [0u8; WINDOW_SIZE];
     tables_at(&mut w, ORIGIN);
     show(&w);
     put(&mut w, POINTERS, 0, 0);
@@ -146,11 +147,11 @@ pub fn show_linear() {
     show_ends();
 }
 
-// Two page tables, in the pages 3 and b of the window, and a page 4 in the first; entry 1 of the directory has more bits.
+// Page tables in the pages 3 and b of the window, and a page in the first; entry 1 of the directory has more bits set.
 fn show_levels(b: u64, page: u64, bits: u64)
     requires { ⌜ (b < 24) × (page < 24) ⌝ }
 {
-    let mut w = [0u8; 98304];
+    let mut w = [0u8; WINDOW_SIZE];
     tables_at(&mut w, ORIGIN);
     put(&mut w, DIRECTORY, 1, entry(ORIGIN, b) | bits);
     put(&mut w, TABLE, 0, entry(ORIGIN, page));
@@ -159,7 +160,7 @@ fn show_levels(b: u64, page: u64, bits: u64)
 
 // Entry 1 of the pointer table is bad in one way, entry 0 of the directory in another.
 fn show_pointers() {
-    let mut w = [0u8; 98304];
+    let mut w = [0u8; WINDOW_SIZE];
     put(&mut w, POINTERS, 0, entry(ORIGIN, 2));
     put(&mut w, POINTERS, 1, entry(ORIGIN, 24));
     put(&mut w, DIRECTORY, 0, entry(ORIGIN, 3) | 0x80);
@@ -173,7 +174,7 @@ fn show_pages() {
         base: 0x10_4000,
         size: 0x1000,
     };
-    let mut w = [0u8; 98304];
+    let mut w = [0u8; WINDOW_SIZE];
     two_pages(&mut w, 4, 5);
     put(&mut w, TABLE, 2, 0x8000_0000_0010_6001);
     show_regions(&w, first, none, none);

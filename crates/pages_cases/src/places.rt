@@ -3,6 +3,7 @@ use crate::build::BASE;
 use crate::build::DIRECTORY;
 use crate::build::POINTERS;
 use crate::build::TABLE;
+use crate::build::WINDOW_SIZE;
 use crate::build::entry;
 use crate::build::put;
 use crate::build::tables_at;
@@ -19,15 +20,15 @@ ghost use Prim.Native.Nat.{_<_};
 
 // The last page of a window, whole and without its last byte, and a window without a byte.
 fn show_short_windows() {
-    let w = [0u8; 98304];
-    show_first(&w, 98304, ORIGIN, 0x11_7000);
-    show_first(&w, 98303, ORIGIN, 0x11_7000);
+    let w = [0u8; WINDOW_SIZE];
+    show_first(&w, WINDOW_SIZE, ORIGIN, 0x11_7000);
+    show_first(&w, WINDOW_SIZE - 1, ORIGIN, 0x11_7000);
     show_first(&w, 0, ORIGIN, BASE);
 }
 
 // A base on a page, then bases that are not.
 fn show_aligned() {
-    let mut w = [0u8; 98304];
+    let mut w = [0u8; WINDOW_SIZE];
     two_pages(&mut w, 4, 5);
     show_base(&w, BASE);
     show_base(&w, BASE + 1);
@@ -35,9 +36,9 @@ fn show_aligned() {
     show_base(&w, BASE + 0x10_0000_0000_0001);
 }
 
-// The first byte of a base outside the window, in its last page, and after it.
+// Bases on a page: 2^52 too high, below the window, its last page, and after it.
 fn show_outside() {
-    let w = [0u8; 98304];
+    let w = [0u8; WINDOW_SIZE];
     show_base(&w, BASE + 0x10_0000_0000_0000);
     show_base(&w, 0xff000);
     show_base(&w, 0x11_7000);
@@ -53,17 +54,17 @@ pub fn show_bases() {
 
 // A base in an empty window at an origin.
 fn show_empty(origin: u64, t: u64) {
-    let w = [0u8; 98304];
+    let w = [0u8; WINDOW_SIZE];
     show_first(&w, 16384, origin, t);
 }
 
 fn show_base_heap(base: u64, size: u64) {
-    let w = [0u8; 98304];
+    let w = [0u8; WINDOW_SIZE];
     show_heap(&w, base, size);
 }
 
 fn show_base_module(base: u64, size: u64) {
-    let w = [0u8; 98304];
+    let w = [0u8; WINDOW_SIZE];
     show_module(&w, base, size);
 }
 
@@ -86,14 +87,14 @@ pub fn show_base_ranges() {
 fn show_second(page: u64, n: usize)
     requires { ⌜ page < 0x1000 ⌝ }
 {
-    let mut w = [0u8; 98304];
+    let mut w = [0u8; WINDOW_SIZE];
     two_pages(&mut w, 4, page);
     show_first(&w, n, ORIGIN, BASE);
 }
 
 // Two pages inside the window, and one entry that is not, in each kind of table in turn.
 fn show_entry_outside() {
-    let mut w = [0u8; 98304];
+    let mut w = [0u8; WINDOW_SIZE];
     two_pages(&mut w, 4, 5);
     put(&mut w, TABLE, 2, 0xff001);
     show(&w);
@@ -105,27 +106,27 @@ fn show_entry_outside() {
 
 // Rule 15 for entries.
 pub fn show_window() {
-    show_second(23, 98304);
-    show_second(23, 98303);
+    show_second(23, WINDOW_SIZE);
+    show_second(23, WINDOW_SIZE - 1);
     show_second(23, 96256);
     show_second(22, 96256);
-    show_second(24, 98304);
+    show_second(24, WINDOW_SIZE);
     show_entry_outside();
 }
 
 // A page below the hole, then one in it.
 fn show_hole() {
-    let mut w = [0u8; 98304];
+    let mut w = [0u8; WINDOW_SIZE];
     tables_at(&mut w, 0x9b000);
     put(&mut w, TABLE, 0, 0x9f001);
-    show_first(&w, 98304, 0x9b000, 0x9c000);
+    show_first(&w, WINDOW_SIZE, 0x9b000, 0x9c000);
     put(&mut w, TABLE, 1, 0xa0001);
-    show_first(&w, 98304, 0x9b000, 0x9c000);
+    show_first(&w, WINDOW_SIZE, 0x9b000, 0x9c000);
 }
 
 // Two pages, and a table, beside the heap or in it.
 fn show_heaps() {
-    let mut w = [0u8; 98304];
+    let mut w = [0u8; WINDOW_SIZE];
     two_pages(&mut w, 4, 5);
     show_heap(&w, 0x10_6000, 1);
     show_heap(&w, 0x10_5fff, 1);
@@ -134,7 +135,7 @@ fn show_heaps() {
 
 // Two pages, and a table, beside the module or in it.
 fn show_modules() {
-    let mut w = [0u8; 98304];
+    let mut w = [0u8; WINDOW_SIZE];
     two_pages(&mut w, 4, 5);
     show_module(&w, 0x10_6000, 0x1000);
     show_module(&w, 0x10_5800, 0x1000);
@@ -149,7 +150,7 @@ pub fn show_ranges() {
 }
 
 fn show_three(dpr: Range, low: Range, high: Range) {
-    let mut w = [0u8; 98304];
+    let mut w = [0u8; WINDOW_SIZE];
     two_pages(&mut w, 4, 5);
     show_regions(&w, dpr, low, high);
 }

@@ -2,6 +2,7 @@
 use crate::build::DIRECTORY;
 use crate::build::POINTERS;
 use crate::build::TABLE;
+use crate::build::WINDOW_SIZE;
 use crate::build::Window;
 use crate::build::entry;
 use crate::build::put;
@@ -29,7 +30,7 @@ fn show_bits(w: &mut Window, page: usize, e: u64, lowest: u64, n: usize)
 fn show_kind(page: usize, next: u64)
     requires { ⌜ (page < 24) × (next < 24) ⌝ }
 {
-    let mut w = [0u8; 98304];
+    let mut w = [0u8; WINDOW_SIZE];
     two_pages(&mut w, 4, 5);
     show_bits(&mut w, page, entry(ORIGIN, next), 2, 11);
     show_bits(&mut w, page, entry(ORIGIN, next), 0x10_0000_0000_0000, 12);
@@ -37,7 +38,7 @@ fn show_kind(page: usize, next: u64)
 
 // An entry that is not present is not looked at.
 fn show_absent() {
-    let mut w = [0u8; 98304];
+    let mut w = [0u8; WINDOW_SIZE];
     two_pages(&mut w, 4, 5);
     put(&mut w, POINTERS, 1, 0xffff_ffff_ffff_fffe);
     put(&mut w, DIRECTORY, 1, 0xffff_ffff_ffff_fffe);

@@ -2,9 +2,9 @@
 use Prim.Native.Nat.{_*_, _-_, _≤_}
 use mathlib.Core.Path.{_≡_}
 use native.Mathlib.Omega.{arith}
-use Rattle.pages.specs.declared.Kind.the-variants.{Page}
+use Rattle.pages.specs.declared.Kind.the-variants.{Directory, Page}
 use Rattle.pages.specs.Memory.{windowOf}
-use Rattle.pages.specs.Tables.{entries, entryAt, foundFrom, foundIn}
+use Rattle.pages.specs.Tables.{entries, entryAt, levelSize, foundFrom, foundIn}
 use Rattle.pages.specs.Inner.{Tried}
 use Rattle.pages.proofs.Turns.{tried-none, table-turn}
 use borrow.Author.Needs.{needs}
@@ -12,10 +12,10 @@ use Rattle.pages.proofs.levels.pages.Statement.{statement}
 use Rattle.pages.proofs.levels.pages.Tie as tie
 
 abbrev Inv-loop : tie.InvT-loop
-Inv-loop w m t run₀ d₀ run d = (d ≤ 2048) × Tried (windowOf w (m .window)) m run₀ run (foundFrom Page (entryAt Page w (m .window) t) 0 (entries * d))
+Inv-loop w m t run₀ d₀ run d = (d ≤ levelSize Directory) × Tried (windowOf w (m .window)) m run₀ run (foundFrom Page (entryAt Page w (m .window) t) 0 (entries * d))
 
 abbrev μ-loop : tie.MeasureT-loop
-μ-loop w m t run₀ d₀ run d = 2048 - d
+μ-loop w m t run₀ d₀ run d = levelSize Directory - d
 
 loop-holds : tie.Need-loop-holds Inv-loop μ-loop
 unfolding foundFrom
@@ -39,7 +39,7 @@ loop-again c = (
 returns : tie.Need-returns Inv-loop μ-loop
 unfolding foundIn
 returns c =
-    let all : entries * c .before .loop .d ≡ 1048576 = omega arith in
+    let all : entries * c .before .loop .d ≡ levelSize Page = omega arith in
     rw all at (c .before .loop .inv .1)
 
 pub pages-spec : {M : Type 1} → statement M

@@ -2,8 +2,7 @@
 use mathlib.Core.Path.{sym, ap, _∙_}
 use borrow.Author.Tests.{not-true}
 use Rattle.pages.specs.Entry.{presentOf}
-use Rattle.pages.proofs.Joined.{table-absent}
-use Rattle.pages.proofs.Turns.{tried-none, tried-refused}
+use Rattle.pages.proofs.Turns.{tried-refused, table-skipped}
 use borrow.Author.Needs.{needs}
 use Rattle.pages.proofs.levels.table.Statement.{statement}
 use Rattle.pages.proofs.levels.table.Tie as tie
@@ -19,8 +18,7 @@ present-requires c κs = search needs
 
 returns-2 : tie.Need-returns-2
 returns-2 c =
-    rw (table-absent _ _ _ _ (sym (c .before .present .ensures ∙ ap presentOf (c .before .before .directory .ensures)) ∙ not-true _ (c .if2 .taken)))
-    (tried-none _ _ _)
+    table-skipped _ _ _ _ _ _ _ (sym (c .before .present .ensures ∙ ap presentOf (c .before .before .directory .ensures)) ∙ not-true _ (c .if2 .taken))
 
 mul-span : tie.Need-mul-span
 mul-span c = search needs

@@ -1,0 +1,55 @@
+-- The tests of rules 23 to 26 and 28 say what the propositions of specs/Meaning.antt say.
+use mathlib.Core.Path.{_≡_, refl, sym}
+use mathlib.Core.Logic.{_↔_}
+use mathlib.Core.Bool.{Bool, true, false, not, _||_, true≢false}
+use borrow.Author.Tests.{leb-true, le-leb, eqb-true, eq-eqb}
+use Rattle.range.proofs.Ranges.{inside-bounds}
+use Rattle.range.proofs.Tests.{_&_, each}
+use Rattle.decision.specs.Record.{recordTests, policyType, LIST, ANY, bit, control, productionWorthy, versionReached}
+use Rattle.decision.specs.Lists.{filePlaced, hashOf, hashMatches}
+use Rattle.decision.specs.Meaning.{RecordExactly, WorthyExactly, ReachedExactly, PlacedExactly, HashExactly}
+use Rattle.decision.proofs.Marks.{same-exactly}
+use Rattle.decision.proofs.Choices.{eqb-exactly, leb-exactly, or-exactly}
+
+pub record-exactly : RecordExactly
+unfolding recordTests
+record-exactly r =
+    let type = or-exactly (eqb-exactly (policyType r) LIST) (eqb-exactly (policyType r) ANY) in (
+      λ e.
+          let t = each _ .0 e in
+          record {
+            size = eqb-true _ _ (t .0);
+            version = eqb-true _ _ (t .1 .0);
+            algorithm = eqb-true _ _ (t .1 .1 .0);
+            type = type .0 (t .1 .1 .1 .0);
+          },
+      λ h. each _ .1 (eq-eqb _ _ (h .size) & eq-eqb _ _ (h .version) & eq-eqb _ _ (h .algorithm) & type .1 (h .type) & tt),
+    )
+
+-- a test that is asked only where another holds
+where-holds : (a b : Bool) {P Q : Type 0} → (a ≡ true) ↔ P → (b ≡ true) ↔ Q → ((not a || b) ≡ true) ↔ (P → Q)
+where-holds true b p q = (λ e h. q .0 e, λ h. q .1 (h (p .0 refl)))
+where-holds false b p q = (λ e h. absurd (true≢false (sym (p .1 h))), λ h. refl)
+
+pub worthy-exactly : WorthyExactly
+unfolding productionWorthy
+worthy-exactly flags r =
+    where-holds (bit 14 flags || bit 15 flags) (bit 1 (control r)) (or-exactly (eqb-exactly _ _) (eqb-exactly _ _)) (eqb-exactly _ _)
+
+pub reached-exactly : ReachedExactly
+unfolding versionReached
+reached-exactly acmVersion r = leb-exactly _ _
+
+pub placed-exactly : PlacedExactly
+unfolding filePlaced
+placed-exactly w window base size = (
+  λ e.
+      let t = each _ .0 e in
+      let i = inside-bounds _ _ .0 (t .1 .1 .0) in
+      record { least = leb-true _ _ (t .0); most = leb-true _ _ (t .1 .0); from = i .0; to = i .1 },
+  λ h. each _ .1 (le-leb _ _ (h .least) & le-leb _ _ (h .most) & inside-bounds _ _ .1 (h .from, h .to) & tt),
+)
+
+pub hash-exactly : HashExactly
+unfolding hashMatches hashOf
+hash-exactly file r = same-exactly _ _

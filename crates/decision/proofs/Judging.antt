@@ -1,0 +1,110 @@
+-- The elements of a list one after the other: whether all are judged and some names the digest, from what was found so far and the elements that are left.
+use Prim.Native.Nat.{ℕ, _+_, _≤_}
+use mathlib.Core.Path.{_≡_, refl, ap, sym, _∙_}
+use mathlib.Core.Bool.{Bool, true, false, _&&_, _||_, true≢false, or-true, or-false}
+use mathlib.Core.List.{List, []}
+use native.Mathlib.Omega.{arith}
+use lib.ListN.{length, take}
+use Rattle.policy.specs.declared.ElementAnswer.{ElementAnswer}
+use Rattle.policy.specs.declared.ListAnswer.{ListAnswer}
+use Rattle.policy.specs.declared.ListAnswer.the-variants as lists
+use Rattle.policy.specs.Grammar.{Element, Signing, PolicyList}
+use Rattle.policy.specs.Grammar as Grammar
+use Rattle.policy.specs.Answers.{signingShown}
+use Rattle.policy.specs.Demand3.{seenElement}
+use Rattle.policy.proofs.Standing as kinds
+use Rattle.policy.proofs.Walk.{element-seen, elements-within, elements-stand}
+use Rattle.decision.specs.Lists.{every, any, judged, names, permits}
+use Rattle.decision.specs.Inner.{judgedAnswer, namesSeen, Counted, ElementsStand, ListStands}
+use Rattle.decision.proofs.Walking.{Turn}
+use Rattle.decision.proofs.Naming.{judged-is, counted-is}
+
+pub record Judging (digest : List ℕ) (acm : ℕ) (es : List Element) (found : Bool) (rest : List Element) : Type 0 where
+  pub same : (every judged es && any (names digest acm) es) ≡ (every judged rest && (found || any (names digest acm) rest))
+
+module _ (digest : List ℕ) (acm : ℕ) (es : List Element) where
+  pub judging-start : Judging digest acm es false es
+  judging-start = record { same = refl }
+
+  pub judging-end : (found : Bool) → Judging digest acm es found [] → found ≡ (every judged es && any (names digest acm) es)
+  judging-end found h = sym (h .same ∙ or-false found)
+
+  -- one element, by the answers for it
+  module _ (t : List ℕ) (at : ℕ) (found : Bool) (e : ElementAnswer) (turn : Turn kinds.element t at (Judging digest acm es found) e) where
+    pub fits : Counted e
+    fits = rw (turn .shown) (counted-is at (turn .first) (turn .valid .0))
+
+    module _ (j : Bool) (ej : j ≡ judgedAnswer e) where
+      j-is : j ≡ judged (turn .first)
+      j-is = ej ∙ ap judgedAnswer (turn .shown) ∙ judged-is at (turn .first) (turn .valid .0)
+
+      pub unjudged : j ≡ false → false ≡ (every judged es && any (names digest acm) es)
+      unjudged h = sym (turn .kept .same ∙ rw (sym j-is ∙ h))
+
+      reorder : (f n a : Bool) → (f || (n || a)) ≡ ((n || f) || a)
+      reorder true n a = rw (or-true n)
+      reorder false n a = rw (or-false n)
+
+      pub judging-step : j ≡ true → (n : Bool) → n ≡ namesSeen digest acm (seenElement t e) → (found′ : Bool) → found′ ≡ (n || found)
+          → Judging digest acm es found′ (turn .others)
+      judging-step h n en found′ ef =
+          let x = turn .first in
+          let n-is : n ≡ names digest acm x = en ∙ ap (namesSeen digest acm) (ap (seenElement t) (turn .shown) ∙ element-seen t at x (turn .others) (turn .valid) (turn .stand)) in
+          record {
+            same =
+                turn .kept .same
+                ∙ rw (sym j-is ∙ h, ← n-is, ef)
+                (ap (λ (b : Bool). every judged (turn .others) && b) (reorder found n (any (names digest acm) (turn .others))));
+          }
+
+-- A LIST
+
+abbrev isUnsigned : ListAnswer → Bool
+isUnsigned (lists.Unsigned start size version es n) = true
+isUnsigned (lists.Signed start size version es n c k key signature) = false
+isUnsigned lists.Absent = false
+
+-- where an unsigned list stands, its elements do
+pub record Unsigned (s : List ℕ) (x : PolicyList) (start n : ℕ) : Type 0 where
+  pub signing : x .signing ≡ Grammar.unsigned
+  pub within : start + n ≤ length s
+  pub elements : ElementsStand (take (start + n) s) start (x .elements)
+
+module _ (s : List ℕ) (l : ListAnswer) (x : PolicyList) (h : ListStands s l x) where
+  shown-is : (g : Signing) → x .signing ≡ g → l ≡ signingShown (h .at) (x .version) (x .elementsSize) g
+  shown-is g i = h .shown ∙ ap (signingShown (h .at) (x .version) (x .elementsSize)) i
+
+  pub unsigned-list : (start size version es n : ℕ) → l ≡ lists.Unsigned start size version es n → Unsigned s x es n
+  unsigned-list start size version es n q = go (x .signing) refl
+    where
+      go : (g : Signing) → x .signing ≡ g → Unsigned s x es n
+      go Grammar.unsigned i =
+          let e = shown-is Grammar.unsigned i in
+          let e₁ : es ≡ h .at + 8 = cc in
+          let e₂ : n ≡ x .elementsSize = cc in
+          record {
+            signing = i;
+            within = omega (arith, elements-within s (h .at) x (h .others) (h .valid) (h .stand));
+            elements =
+                record {
+                  valid = h .valid .0 .elements-valid;
+                  stand = rw (e₁, e₂) (elements-stand s (h .at) x (h .others) (h .valid) (h .stand));
+                };
+          }
+      go (Grammar.signed g) i =
+          let e = shown-is (Grammar.signed g) i in
+          let z : _≡_ {A = ℕ} 0 1 = cc in absurd (omega arith)
+
+  pub unsigned-permits : (digest : List ℕ) (acm start n : ℕ) → Unsigned s x start n → (r : Bool)
+      → r ≡ (every judged (x .elements) && any (names digest acm) (x .elements)) → r ≡ permits digest acm x
+  unfolding permits
+  unsigned-permits digest acm start n u r e = rw (u .signing) e
+
+  -- a signed list does not permit, and no list stands where the answer is that there is none
+  pub signed-list : (digest : List ℕ) (acm : ℕ) (v : ListAnswer) → l ≡ v → isUnsigned v ≡ false → false ≡ permits digest acm x
+  unfolding permits
+  signed-list digest acm v q h = go (x .signing) refl
+    where
+      go : (g : Signing) → x .signing ≡ g → false ≡ permits digest acm x
+      go Grammar.unsigned i = absurd (true≢false (sym (ap isUnsigned (shown-is Grammar.unsigned i)) ∙ ap isUnsigned q ∙ h))
+      go (Grammar.signed g) i = rw i

@@ -1,0 +1,18 @@
+-- The laws of the crate; other crates cite those that are public.
+-- Tests, and values of lists by their numbers.
+mod Choices
+mod Members
+mod Marks
+-- What the rules say.
+pub mod Conditions
+pub mod RecordAnswers
+-- Loops over the lists of a file and the elements of a list.
+mod Walking
+mod Hashing
+mod Digests
+mod Naming
+mod Judging
+mod Lowest
+-- What rules 27 and 29 say.
+pub mod Readings
+pub mod Permission

@@ -1,0 +1,113 @@
+-- A test of every value of a list, of some value, and of the first value that passes, by the values' numbers.
+use Prim.Native.Nat.{ℕ, zero, suc, _+_, _<_}
+use mathlib.Core.Path.{_≡_, refl, sym, _∙_}
+use mathlib.Core.Logic.{_↔_, _⊎_, inl, inr, ⊎-elim}
+use mathlib.Core.Bool.{Bool, true, false, true≢false, and-eq-true-iff}
+use mathlib.Core.List.{List, [], _∷_}
+use mathlib.Core.Option.{some, none}
+use native.Mathlib.Omega.{arith}
+use lib.ListN.{length, getElem?}
+use Rattle.policy.specs.Grammar.{PolicyList}
+use Rattle.decision.specs.Lists.{every, any, noList, lowestFrom}
+use Rattle.decision.proofs.Choices.{or-exactly}
+
+module _ {A : Type 0} where
+  nothing : (a : A) → none ≡ some a → ⊥
+  nothing a e = let z : _≡_ {A = ℕ} 0 1 = cc in omega arith
+
+  -- the value number `place` of a list, of which something holds
+  pub record Member (P : A → Type 0) (xs : List A) : Type 0 where
+    pub place : ℕ
+    pub value : A
+    pub stands : getElem? xs place ≡ some value
+    pub holds : P value
+
+  module _ (test : A → Bool) (P : A → Type 0) (says : (a : A) → (test a ≡ true) ↔ P a) where
+    pub every-exactly : (xs : List A) → (every test xs ≡ true) ↔ ((j : ℕ) (a : A) → getElem? xs j ≡ some a → P a)
+    every-exactly [] = (λ e j a q. absurd (nothing a q), λ h. refl)
+    every-exactly (x ∷ xs) = (
+      λ e. (let p = and-eq-true-iff _ _ .0 e in at-each (says x .0 (p .0)) (every-exactly xs .0 (p .1))),
+      λ h. and-eq-true-iff _ _ .1 (says x .1 (h 0 x refl), every-exactly xs .1 (λ j. h (suc j))),
+    )
+      where
+        at-each : P x → ((j : ℕ) (a : A) → getElem? xs j ≡ some a → P a) → (j : ℕ) (a : A) → getElem? (x ∷ xs) j ≡ some a → P a
+        at-each p h zero a q = let i : x ≡ a = cc in rw i at p
+        at-each p h (suc j) a q = h j a q
+
+    pub any-exactly : (xs : List A) → (any test xs ≡ true) ↔ Member P xs
+    any-exactly [] = (λ e. absurd (true≢false (sym e)), λ m. absurd (nothing (m .value) (m .stands)))
+    any-exactly (x ∷ xs) =
+        let both = or-exactly (says x) (any-exactly xs) in (
+          λ e. ⊎-elim (λ p. record { place = 0; value = x; stands = refl; holds = p }) later (both .0 e),
+          λ m. both .1 (which (m .place) (m .value) (m .stands) (m .holds)),
+        )
+      where
+        later : Member P xs → Member P (x ∷ xs)
+        later m = record { place = suc (m .place); value = m .value; stands = m .stands; holds = m .holds }
+
+        which : (j : ℕ) (a : A) → getElem? (x ∷ xs) j ≡ some a → P a → P x ⊎ Member P xs
+        which zero a q p = let i : x ≡ a = cc in inl (rw i p)
+        which (suc j) a q p = inr (record { place = j; value = a; stands = q; holds = p })
+
+-- the first list that passes, counted from i
+pub record First (test : PolicyList → Bool) (ls : List PolicyList) (j : ℕ) : Type 0 where
+  pub value : PolicyList
+  pub stands : getElem? ls j ≡ some value
+  pub passes : test value ≡ true
+  pub before : (k : ℕ) (l : PolicyList) → k < j → getElem? ls k ≡ some l → test l ≡ false
+
+-- it is reported, or all fail and 255 is
+pub record Reported (test : PolicyList → Bool) (i : ℕ) (ls : List PolicyList) : Type 0 where
+  pub place : ℕ
+  pub first : First test ls place
+  pub number : lowestFrom i test ls ≡ i + place
+  pub below : place < length ls
+
+pub record Unreported (test : PolicyList → Bool) (i : ℕ) (ls : List PolicyList) : Type 0 where
+  pub fail : (k : ℕ) (l : PolicyList) → getElem? ls k ≡ some l → test l ≡ false
+  pub number : lowestFrom i test ls ≡ noList
+
+pub lowest-is : (test : PolicyList → Bool) (i : ℕ) (ls : List PolicyList) → Reported test i ls ⊎ Unreported test i ls
+unfolding lowestFrom
+lowest-is test i [] = inr (record { fail = λ k l q. absurd (nothing l q); number = refl })
+lowest-is test i (x ∷ xs) = go (test x) refl (lowest-is test (suc i) xs)
+  where
+    go : (t : Bool) → test x ≡ t → Reported test (suc i) xs ⊎ Unreported test (suc i) xs → Reported test i (x ∷ xs) ⊎ Unreported test i (x ∷ xs)
+    go true e rest =
+        inl (record {
+          place = 0;
+          first = record { value = x; stands = refl; passes = e; before = λ k l h. absurd (omega arith) };
+          number = rw e (omega arith);
+          below = omega arith;
+        })
+    go false e rest = ⊎-elim (λ r. inl (found r)) (λ u. inr (none-found u)) rest
+      where
+        earlier : (P : ℕ → Type 0) → P 0 → ((k : ℕ) → P (suc k)) → (k : ℕ) → P k
+        earlier P z s zero = z
+        earlier P z s (suc k) = s k
+
+        found : Reported test (suc i) xs → Reported test i (x ∷ xs)
+        found r =
+            record {
+              place = suc (r .place);
+              first =
+                  record {
+                    value = r .first .value;
+                    stands = r .first .stands;
+                    passes = r .first .passes;
+                    before = earlier (λ (k : ℕ). (l : PolicyList) → k < suc (r .place) → getElem? (x ∷ xs) k ≡ some l → test l ≡ false)
+                        (λ l h q. (let w : x ≡ l = cc in rw w at e))
+                        (λ k l h q. r .first .before k l (omega arith) q);
+                  };
+              number = rw e (r .number ∙ omega arith);
+              below = omega (arith, r .below);
+            }
+
+        none-found : Unreported test (suc i) xs → Unreported test i (x ∷ xs)
+        none-found u =
+            record {
+              fail = earlier (λ (k : ℕ). (l : PolicyList) → getElem? (x ∷ xs) k ≡ some l → test l ≡ false)
+                  (λ l q. (let w : x ≡ l = cc in rw w at e))
+                  (λ k l q. u .fail k l q);
+              number = rw e (u .number);
+            }

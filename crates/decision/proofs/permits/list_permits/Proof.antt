@@ -1,0 +1,60 @@
+-- `list_permits` meets its contract: the elements of an unsigned list stand in the file up to their end, and no other list permits.
+use mathlib.Core.Path.{refl, sym}
+use native.Mathlib.Omega.{arith}
+use lib.Seq.{length-take-le}
+use Rattle.decision.proofs.Judging.{unsigned-list, unsigned-permits, signed-list}
+use borrow.Author.Needs.{needs}
+use Rattle.decision.proofs.permits.list_permits.Statement.{statement}
+use Rattle.decision.proofs.permits.list_permits.Tie as tie
+
+enum-known-l : tie.Need-enum-known-l
+enum-known-l c = search needs
+
+add-elements-permit : tie.Need-add-elements-permit
+add-elements-permit c =
+    let p = c .before .before .before .before .pre in
+    let u = unsigned-list _ _ (p .0) (p .1) _ _ _ _ _ (c .before .l .given .1) in
+    omega (arith, u .within)
+
+slice-aggregate-elements-permit : tie.Need-slice-aggregate-elements-permit
+slice-aggregate-elements-permit c =
+    let p = c .before .before .before .before .before .pre in
+    let u = unsigned-list _ _ (p .0) (p .1) _ _ _ _ _ (c .before .before .l .given .1) in
+    sym (length-take-le _ _ (u .within))
+
+elements-permit-requires : tie.Need-elements-permit-requires
+elements-permit-requires c κs =
+    let p = c .before .before .before .before .before .pre in
+    let u = unsigned-list _ _ (p .0) (p .1) _ _ _ _ _ (c .before .before .l .given .1) in
+    (p .0 .elements, u .elements)
+
+enum-told : tie.Need-enum-told
+enum-told c = search needs
+
+enum-told-2 : tie.Need-enum-told-2
+enum-told-2 c = search needs
+
+returns : tie.Need-returns
+returns c = λ x stands.
+    let u = unsigned-list _ _ x stands _ _ _ _ _ (c .before .before .before .l .given .1) in
+    unsigned-permits _ _ x stands _ _ _ _ u _ (c .elements-permit .ensures (x .elements) (u .elements))
+
+returns-2 : tie.Need-returns-2
+returns-2 c = λ x stands. signed-list _ _ x stands _ _ _ (c .enum-told .given .1) refl
+
+returns-3 : tie.Need-returns-3
+returns-3 c = λ x stands. signed-list _ _ x stands _ _ _ (c .enum-told2 .given .1) refl
+
+pub list-permits-spec : {M : Type 1} → statement M
+list-permits-spec =
+    tie.close
+    (tie.spec
+    enum-known-l
+    add-elements-permit
+    slice-aggregate-elements-permit
+    elements-permit-requires
+    enum-told
+    enum-told-2
+    returns
+    returns-2
+    returns-3)

@@ -1,0 +1,44 @@
+-- `record` meets its contract: 0 gives the kind of policy, and every other number is a refusal.
+use Prim.Native.Nat.{ℕ, zero, suc}
+use mathlib.Core.Path.{_≡_, ap}
+use borrow.Author.Tests.{ne-eqb}
+use Rattle.decision.specs.declared.RecordAnswer.the-variants as answers
+use Rattle.decision.specs.Record.{LIST}
+use Rattle.decision.specs.Answers.{recordAnswer, recordOf}
+use borrow.Author.Needs.{needs}
+use Rattle.decision.proofs.policy_record.record.Statement.{statement}
+use Rattle.decision.proofs.policy_record.record.Tie as tie
+
+refused : (n k type : ℕ) → n ≡ k → (n ≡ 0 → ⊥) → answers.Refused n ≡ recordAnswer k type
+unfolding recordAnswer
+refused n zero type e h = absurd (h e)
+refused n (suc k) type e h = ap answers.Refused e
+
+list : (n k type t : ℕ) → n ≡ k → n ≡ 0 → t ≡ type → t ≡ LIST → answers.List ≡ recordAnswer k type
+unfolding recordAnswer
+list n k type t e z q h = rw (← e, z, ← q, h)
+
+any : (n k type t : ℕ) → n ≡ k → n ≡ 0 → t ≡ type → (t ≡ LIST → ⊥) → answers.Any ≡ recordAnswer k type
+unfolding recordAnswer
+any n k type t e z q h = rw (← e, z, ← q, ne-eqb t LIST h)
+
+fault-requires : tie.Need-fault-requires
+fault-requires c κs = search needs
+
+returns : tie.Need-returns
+unfolding recordOf
+returns c = search (needs, refused)
+
+policy-type-requires : tie.Need-policy-type-requires
+policy-type-requires c κs = search needs
+
+returns-2 : tie.Need-returns-2
+unfolding recordOf
+returns-2 c = search (needs, list)
+
+returns-3 : tie.Need-returns-3
+unfolding recordOf
+returns-3 c = search (needs, any)
+
+pub record-spec : {M : Type 1} → statement M
+record-spec = tie.close (tie.spec fault-requires returns policy-type-requires returns-2 returns-3)

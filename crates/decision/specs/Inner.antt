@@ -1,0 +1,56 @@
+-- What the contracts of functions cite that are not public: an answer of the policy reader, and what it is the answer for.
+use Prim.Native.Nat.{ℕ, _<_, _^_}
+use mathlib.Core.Path.{_≡_}
+use mathlib.Core.Bool.{Bool, true, false}
+use mathlib.Core.List.{List, [], _∷_, flatMap}
+use mathlib.Core.Option.{Option, some, none}
+use lib.ListN.{drop}
+use Rattle.policy.specs.declared.ListAnswer.{ListAnswer}
+use Rattle.policy.specs.declared.ElementAnswer.{ElementAnswer}
+use Rattle.policy.specs.declared.ElementAnswer.the-variants as elements
+use Rattle.policy.specs.Grammar.{All, Element, elementBytes, ValidElement, Signing, PolicyList, listBytes, ValidList}
+use Rattle.policy.specs.Grammar as Grammar
+use Rattle.policy.specs.Answers.{listShown}
+use Rattle.policy.specs.Demand3.{ListPart}
+use Rattle.decision.specs.Lists.{names}
+
+-- what is measured for a list that is seen
+abbrev pub measuredIn : ListPart → Signing → List ℕ
+measuredIn p Grammar.unsigned = p .whole
+measuredIn p (Grammar.signed g) = g .key
+
+abbrev pub measuredSeen : Option ListPart → List ℕ
+measuredSeen none = []
+measuredSeen (some p) = measuredIn p (p .signing)
+
+-- an element is of a type that is judged
+abbrev pub judgedAnswer : ElementAnswer → Bool
+judgedAnswer (elements.Launch start size control m v a n) = true
+judgedAnswer (elements.Custom start size control) = true
+judgedAnswer (elements.Unjudged start size type control) = false
+judgedAnswer elements.Refused = false
+
+-- an element that is seen names the digest
+abbrev pub namesSeen : List ℕ → ℕ → Option Element → Bool
+namesSeen digest acmVersion none = false
+namesSeen digest acmVersion (some e) = names digest acmVersion e
+
+-- a count of digests is a number of 16 bits
+abbrev pub Counted : ElementAnswer → Type 0
+Counted (elements.Launch start size control m v a n) = n < 2 ^ 16
+Counted (elements.Custom start size control) = Unit
+Counted (elements.Unjudged start size type control) = Unit
+Counted elements.Refused = Unit
+
+-- elements fill a string from an offset on
+pub record ElementsStand (t : List ℕ) (at : ℕ) (es : List Element) : Type 0 where
+  pub valid : All ValidElement es
+  pub stand : drop at t ≡ flatMap elementBytes es
+
+-- an answer is that for a list of a file
+pub record ListStands (s : List ℕ) (answer : ListAnswer) (l : PolicyList) : Type 0 where
+  pub at : ℕ
+  pub others : List PolicyList
+  pub valid : All ValidList (l ∷ others)
+  pub stand : drop at s ≡ flatMap listBytes (l ∷ others)
+  pub shown : answer ≡ listShown at (some l)

@@ -1,0 +1,6 @@
+-- What the contracts of the crate say, and what the rules mean.
+pub mod Record
+pub mod Lists
+pub mod Answers
+pub mod Inner
+pub mod Meaning

@@ -1,0 +1,116 @@
+-- The policy file: where it stands, the measures of its lists, and which list permits a digest. Rules 26 to 29, of the one reading that the file has.
+use Prim.Native.Nat.{ℕ, suc, _-_}
+use mathlib.Core.Bool.{Bool, true, false, cond, _&&_, _||_}
+use mathlib.Core.List.{List, [], _∷_, flatMap}
+use mathlib.Core.Option.{Option, some, none}
+use lib.Dec.{leb, eqb}
+use lib.ListN.{length, take, drop}
+use Rattle.field.specs.Field.{same}
+use Rattle.range.specs.Range.{insideOf}
+use Rattle.range.specs.Rules.{all}
+use Rattle.sha256.specs.Message.{sha256}
+use Rattle.policy.specs.Grammar.{Body, Launch, Element, Signing, PolicyList, listBytes}
+use Rattle.policy.specs.Grammar as Grammar
+use Rattle.policy.specs.Answers.{listsIn}
+use Rattle.policy.specs.Decode.{accepted}
+use Rattle.decision.specs.Record.{policyHash, sha256Alg}
+
+-- a test holds of every value, of some value
+abbrev pub every : {A : Type 0} → (A → Bool) → List A → Bool
+every test [] = true
+every test (x ∷ xs) = test x && every test xs
+
+abbrev pub any : {A : Type 0} → (A → Bool) → List A → Bool
+any test [] = false
+any test (x ∷ xs) = test x || any test xs
+
+-- 26. "policy file not wholly in the window, or its size not 36 to 65,536"
+abbrev pub leastFile : ℕ
+leastFile = 36
+
+abbrev pub largestFile : ℕ
+largestFile = 65536
+
+-- w is the window, which begins at `window`; the file has `size` bytes at `base`
+unfoldable pub filePlaced : List ℕ → ℕ → ℕ → ℕ → List Bool
+filePlaced w window base size =
+    leb leastFile size
+    ∷ leb size largestFile
+    ∷ insideOf (record { base = base; size = size }) (record { base = window; size = length w })
+    ∷ []
+
+-- the bytes of the file where it stands; none where it is not placed
+unfoldable pub fileOf : List ℕ → ℕ → ℕ → ℕ → List ℕ
+fileOf w window base size = cond (all (filePlaced w window base size)) (take size (drop (base - window) w)) []
+
+-- 27. "policy file not of the grammar"
+abbrev pub isSome : {A : Type 0} → Option A → Bool
+isSome none = false
+isSome (some a) = true
+
+unfoldable pub ofGrammar : List ℕ → Bool
+ofGrammar file = isSome (accepted file)
+
+-- the lists of a file that is of the grammar
+abbrev pub listsOf : List ℕ → List PolicyList
+listsOf file = listsIn (accepted file)
+
+-- 28. "A list's measure is SHA-256 of the list's bytes, or of the key if signed. PolicyHash is SHA-256 of the measures joined."
+abbrev pub measuredBytes : PolicyList → Signing → List ℕ
+measuredBytes l Grammar.unsigned = listBytes l
+measuredBytes l (Grammar.signed g) = g .key
+
+unfoldable pub measure : PolicyList → List ℕ
+measure l = sha256 (measuredBytes l (l .signing))
+
+unfoldable pub hashOf : List PolicyList → List ℕ
+hashOf ls = sha256 (flatMap measure ls)
+
+unfoldable pub hashMatches : List ℕ → List ℕ → Bool
+hashMatches file r = same (hashOf (listsOf file)) (policyHash r)
+
+-- 29. "A list permits if it is unsigned, holds only types 0x10 and 3, and some 0x10 element with HashAlg 0x000B names the digest and has
+-- SINITMinVersion at most AcmVersion. Signed lists are read and measured but do not permit yet."
+abbrev pub launchType : ℕ
+launchType = 0x10
+
+abbrev pub customType : ℕ
+customType = 3
+
+abbrev pub unsigned : Signing → Bool
+unsigned Grammar.unsigned = true
+unsigned (Grammar.signed g) = false
+
+abbrev pub judged : Element → Bool
+judged e = eqb (e .type) launchType || eqb (e .type) customType
+
+abbrev pub launchNames : List ℕ → ℕ → Launch → Bool
+launchNames digest acmVersion b =
+    eqb (b .hashAlg) sha256Alg
+    && (any (same digest) (b .digests) && leb (b .sinitMinVersion) acmVersion)
+
+abbrev pub bodyNames : List ℕ → ℕ → Body → Bool
+bodyNames digest acmVersion (Grammar.launch b) = launchNames digest acmVersion b
+bodyNames digest acmVersion (Grammar.other b) = false
+
+unfoldable pub names : List ℕ → ℕ → Element → Bool
+names digest acmVersion e = bodyNames digest acmVersion (e .body)
+
+unfoldable pub permits : List ℕ → ℕ → PolicyList → Bool
+permits digest acmVersion l =
+    unsigned (l .signing) && (every judged (l .elements) && any (names digest acmVersion) (l .elements))
+
+-- "no list permits"
+unfoldable pub somePermits : List ℕ → List ℕ → ℕ → Bool
+somePermits file digest acmVersion = any (permits digest acmVersion) (listsOf file)
+
+-- "The lowest permitting list is reported." 255 where none permits
+abbrev pub noList : ℕ
+noList = 255
+
+unfoldable pub lowestFrom : ℕ → (PolicyList → Bool) → List PolicyList → ℕ
+lowestFrom i test [] = noList
+lowestFrom i test (l ∷ ls) = cond (test l) i (lowestFrom (suc i) test ls)
+
+unfoldable pub lowestPermitting : List ℕ → List ℕ → ℕ → ℕ
+lowestPermitting file digest acmVersion = lowestFrom 0 (permits digest acmVersion) (listsOf file)

@@ -1,0 +1,24 @@
+// What the policy decides: the policy record (rules 23 to 25), the policy file in the window (26 to 28), and the lowest list that permits a digest (29).
+mod measures;
+mod permits;
+mod place;
+mod policy_record;
+
+pub use measures::file_fault;
+pub use permits::lowest_permitting;
+pub use place::file;
+pub use place::file_placed;
+pub use policy_record::record;
+
+// The kind of policy of a record for which rules 23 to 25 hold, or the number of the rule that refuses it.
+pub enum RecordAnswer {
+    Any,
+    List,
+    Refused(u32),
+}
+
+// The list number where no list permits.
+pub const NO_LIST: u32 = 255;
+
+// HashAlg of SHA-256.
+const SHA256_ALG: u64 = 0x000B;

@@ -1,0 +1,62 @@
+// The hash of the measures of a file's lists, and rules 27 and 28.
+use policy::FIRST_LIST;
+use policy::FileAnswer;
+use policy::ListAnswer;
+ghost use mathlib.Core.Path.{_≡_};
+ghost use mathlib.Core.Bool.{true};
+ghost use Rattle.range.specs.Rules.{firstFailing};
+ghost use Rattle.policy.specs.Demand3.{seenList};
+ghost use Rattle.decision.specs.Lists.{ofGrammar, listsOf, hashOf, hashMatches};
+ghost use Rattle.decision.specs.Answers.{fileRules};
+ghost use Rattle.decision.specs.Inner.{measuredSeen};
+
+// The offset of PolicyHash in a record.
+const POLICY_HASH: usize = 38;
+
+// What is measured for a list: its bytes, or its key if it is signed.
+fn measured(file: &[u8], l: ListAnswer) -> &[u8]
+    ensures { λ r. ⌜ now r ≡ measuredSeen (seenList (now (file .entry)) l) ⌝ }
+{
+    match l {
+        ListAnswer::Unsigned { start, size, .. } => policy::part_at(file, start, size),
+        ListAnswer::Signed { key_size, key, .. } => policy::part_at(file, key, key_size),
+        ListAnswer::Absent => &file[..0],
+    }
+}
+
+// The digest of the measures joined.
+fn hash(file: &[u8]) -> [u8; 32]
+    requires { ⌜ ofGrammar (now file) ≡ true ⌝ }
+    ensures { λ r. ⌜ r ≡ hashOf (listsOf (now (file .entry))) ⌝ }
+{
+    let mut state = sha256::start();
+    let mut at = FIRST_LIST;
+    while at < file.len() {
+        let l = policy::list_at(file, at);
+        let measure = sha256::digest(measured(file, l));
+        let next = sha256::absorb(state, &measure);
+        state = next;
+        at += policy::list_size(l);
+    }
+    sha256::finish(state)
+}
+
+// Whether the record r has the hash of the file.
+fn hash_matches(file: &[u8], r: &[u8]) -> bool
+    requires { ⌜ ofGrammar (now file) ≡ true ⌝ }
+    ensures { λ t. ⌜ t ≡ hashMatches (now (file .entry)) (now (r .entry)) ⌝ }
+{
+    let h = hash(file);
+    field::marked(r, POLICY_HASH, &h)
+}
+
+// The number of the first of rules 27 and 28 that fails for a file and the record r, 0 where both hold.
+pub fn file_fault(file: &[u8], r: &[u8]) -> u32
+    ensures { λ n. ⌜ n ≡ firstFailing (fileRules (now (file .entry)) (now (r .entry))) ⌝ }
+{
+    match policy::read(file) {
+        FileAnswer::Accepted { .. } => range::unless(hash_matches(file, r), 28, 0),
+        FileAnswer::WrongSize => 27,
+        FileAnswer::NotOfGrammar => 27,
+    }
+}

@@ -1,0 +1,44 @@
+-- The answer and the page list: the number is that of the first rule that fails, and only where none does are there pages, a list and a digest.
+use Prim.Native.Nat.{ℕ, zero}
+use mathlib.Core.Bool.{cond}
+use mathlib.Core.List.{List}
+use lib.Dec.{eqb}
+use lib.ListN.{replicate}
+use Rattle.range.specs.Rules.{firstFailing}
+use Rattle.heap.specs.declared.OsSinitData.{OsSinitData}
+use Rattle.sinit.specs.declared.ModuleData.{ModuleData}
+use Rattle.mle.specs.declared.Image.{Image}
+use Rattle.mle.specs.Image.{imageDigest, pageList}
+use Rattle.decision.specs.Record.{policyType, LIST}
+use Rattle.decision.specs.Lists.{noList, lowestPermitting}
+use Rattle.launch.specs.declared.Answer.{Answer}
+use Rattle.launch.specs.Rules.{Input, policyFile, os, acm, image, rules}
+
+-- "A refusal has page count 0, list 255, digest all zero"
+abbrev pub refused : ℕ → Answer
+refused n = record { number = n; pages = 0; list = noList; digest = replicate 32 0 }
+
+-- "Under ANY the list is 255." Under LIST it is the lowest that permits
+abbrev pub listFor : List ℕ → Image → List ℕ → OsSinitData → ModuleData → ℕ
+listFor window image policy o m =
+    cond (eqb (policyType policy) LIST) (lowestPermitting (policyFile window image o) (imageDigest window image) (m .«acm_version»)) noList
+
+abbrev pub permitted : Input → Answer
+permitted i =
+    record {
+      number = 0;
+      pages = image i .count;
+      list = listFor (i .window) (image i) (i .policy) (os i) (acm i);
+      digest = imageDigest (i .window) (image i);
+    }
+
+-- the number of the first rule that fails, 0 where all hold
+unfoldable pub numberOf : Input → ℕ
+numberOf i = firstFailing (rules i)
+
+unfoldable pub answerOf : Input → Answer
+answerOf i = cond (eqb (numberOf i) 0) (permitted i) (refused (numberOf i))
+
+-- "the page list keeps every place" on a refusal; "A permission writes the N page addresses, in linear order, to the first N places and keeps the rest"
+unfoldable pub placesOf : Input → List ℕ → List ℕ
+placesOf i places = cond (eqb (numberOf i) 0) (pageList (i .window) (image i) places) places

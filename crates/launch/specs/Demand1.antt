@@ -1,0 +1,28 @@
+-- Demand 1, as one statement: `Demand1`, which proofs/Demand1.antt proves as `demand1`. That the check ends and reads nothing but what it was
+-- lent is what the prover shows of every function; the contract of `check` says that it answers `answerOf` and leaves the page list `placesOf`.
+use Prim.Native.Nat.{ℕ, _<_}
+use mathlib.Core.Path.{_≡_}
+use mathlib.Core.Logic.{_↔_, _≢_}
+use mathlib.Core.List.{List}
+use lib.ListN.{replicate}
+use Rattle.range.specs.Rules.{FirstFails}
+use Rattle.decision.specs.Lists.{noList}
+use Rattle.launch.specs.Rules.{Input, rules}
+use Rattle.launch.specs.Answer.{answerOf, placesOf}
+
+-- a refusal: the number is that of a rule that fails while every rule tried before it holds; no pages, list 255, a digest of zeros, and every
+-- place of the page list as it was
+pub record Refusal (i : Input) (places : List ℕ) : Type 0 where
+  pub named : FirstFails (rules i) (answerOf i .number)
+  pub pages : answerOf i .pages ≡ 0
+  pub list : answerOf i .list ≡ noList
+  pub digest : answerOf i .digest ≡ replicate 32 0
+  pub kept : placesOf i places ≡ places
+
+-- every number but 0 is a refusal, and it is the one that the order of the rules names
+pub record OneNumber (i : Input) (places : List ℕ) : Type 0 where
+  pub refusal : answerOf i .number ≢ 0 → Refusal i places
+  pub one : (n : ℕ) → 0 < n → (answerOf i .number ≡ n) ↔ FirstFails (rules i) n
+
+abbrev pub Demand1 : Type 0
+Demand1 = (i : Input) (places : List ℕ) → OneNumber i places

@@ -1,0 +1,62 @@
+-- Demand 2, as one statement: `Demand2`, which proofs/Demand2.antt proves as `demand2`. A launch is permitted exactly where every rule holds; what
+-- a permission gives is said of the page list that the caller gets; and no list permits where the number is 29.
+use Prim.Native.Nat.{ℕ, _+_, _-_, _<_}
+use mathlib.Core.Path.{_≡_}
+use mathlib.Core.Logic.{_↔_, _≢_}
+use mathlib.Core.List.{List, flatMap}
+use lib.ListN.{length, take, drop, getD}
+use Rattle.field.specs.Number.{Bytes}
+use Rattle.sha256.specs.Message.{sha256}
+use Rattle.pages.specs.declared.Kind.the-variants.{Page}
+use Rattle.pages.specs.Entry.{addressOf}
+use Rattle.pages.specs.Memory.{pageSize, pageOf, windowOf, regions}
+use Rattle.pages.specs.Meaning.{Within, Apart, Some, entry}
+use Rattle.mle.specs.Image.{imageDigest}
+use Rattle.decision.specs.Record.{policyType, LIST, ANY}
+use Rattle.decision.specs.Lists.{noList}
+use Rattle.decision.specs.Meaning.{SomePermits, Lowest}
+use Rattle.launch.specs.Rules.{Input, os, acm, memory, image}
+use Rattle.launch.specs.Answer.{answerOf, placesOf}
+use Rattle.launch.specs.Permitted.{N, file, Permitted}
+
+module _ (i : Input) (places : List ℕ) where
+  -- the address in a place of the page list, when the check has answered
+  abbrev pub page : ℕ → ℕ
+  page k = getD (placesOf i places) k 0
+
+  -- the 4,096 bytes of the window at a physical address
+  abbrev pub memoryAt : ℕ → List ℕ
+  memoryAt a = take pageSize (drop (a - i .platform .«window_base») (i .window))
+
+  pub record Permission : Type 0 where
+    pub count : answerOf i .pages ≡ N i
+    -- the first N places hold the pages in linear order: each is found through the tables; the other places are as they were
+    pub first : ℕ
+    pub linear : (k : ℕ) → k < N i → page k ≡ addressOf (entry (i .window) (memory i) (os i .«page_table_base») Page (first + k))
+    pub rest : drop (N i) (placesOf i places) ≡ drop (N i) places
+    -- they climb strictly and do not overlap
+    pub climb : (j k : ℕ) → j < k → k < N i → page j < page k
+    pub apart : (j k : ℕ) → j < N i → k < N i → j ≢ k → Apart (pageOf (page j)) (pageOf (page k))
+    -- each lies in the window, and wholly in one of the regions that are protected against DMA
+    pub inside : (k : ℕ) → k < N i → Within (pageOf (page k)) (windowOf (i .window) (i .platform .«window_base»))
+    pub protected : (k : ℕ) → k < N i → Some (Within (pageOf (page k))) (regions (memory i))
+    -- the digest is that of their bytes, joined
+    pub digest : answerOf i .digest ≡ sha256 (flatMap memoryAt (take (N i) (placesOf i places)))
+    -- "Under ANY the list is 255"; under LIST it permits this digest, and no lower one does
+    pub anyList : policyType (i .policy) ≡ ANY → answerOf i .list ≡ noList
+    pub lowest : policyType (i .policy) ≡ LIST
+        → Lowest (file i) (answerOf i .digest) (acm i .«acm_version») (answerOf i .list)
+
+  -- no list of the file permits the digest of the pages
+  pub record NoList : Type 0 where
+    pub underList : policyType (i .policy) ≡ LIST
+    pub none : SomePermits (file i) (imageDigest (i .window) (image i)) (acm i .«acm_version») → ⊥
+
+  pub record PermittedExactly : Type 0 where
+    pub exactly : (answerOf i .number ≡ 0) ↔ Permitted i
+    pub gives : answerOf i .number ≡ 0 → Permission
+    pub noList : answerOf i .number ≡ 29 → NoList
+
+-- the window is a string of bytes, and the page list has as many places as the check was told
+abbrev pub Demand2 : Type 0
+Demand2 = (i : Input) (places : List ℕ) → Bytes (i .window) → length places ≡ i .places → PermittedExactly i places

@@ -1,0 +1,152 @@
+-- The rules of the check, in the order they are tried: one list. Each group of rules is a crate's own; here they are joined.
+use Prim.Native.Nat.{ℕ, _*_, _%_, _^_}
+use mathlib.Core.Bool.{Bool, cond}
+use mathlib.Core.List.{List, [], _∷_, _++_}
+use lib.Dec.{leb, eqb}
+use lib.ListN.{length}
+use Rattle.range.specs.declared.Range.{Range}
+use Rattle.range.specs.Range.{endsBy}
+use Rattle.range.specs.Rules.{Rule, rule, all}
+use Rattle.heap.specs.declared.OsSinitData.{OsSinitData}
+use Rattle.heap.specs.Heap.{heapRules, heapFields, lowPmr, highPmr}
+use Rattle.sinit.specs.declared.Chipset.{Chipset}
+use Rattle.sinit.specs.declared.ModuleData.{ModuleData}
+use Rattle.sinit.specs.Rules as sinit
+use Rattle.pages.specs.declared.Memory.{Memory}
+use Rattle.pages.specs.declared.levels.State.{State}
+use Rattle.pages.specs.Memory.{pageSize, windowOf}
+use Rattle.pages.specs.Rules.{walkRules, metOf}
+use Rattle.mle.specs.declared.Image.{Image}
+use Rattle.mle.specs.Image.{imageDigest}
+use Rattle.mle.specs.Header.{pagesOf, sizeTests, headerTests}
+use Rattle.decision.specs.Record.{policyType, LIST, recordRules}
+use Rattle.decision.specs.Lists.{filePlaced, fileOf, ofGrammar, hashMatches, somePermits}
+use Rattle.launch.specs.declared.Platform.{Platform}
+
+-- what is lent for reading, the numbers of the platform, and how many places the page list has
+pub record Input : Type 0 where
+  pub window : List ℕ
+  pub heap : List ℕ
+  pub sinit : List ℕ
+  pub policy : List ℕ
+  pub platform : Platform
+  pub places : ℕ
+
+abbrev pub inputOf : List ℕ → List ℕ → List ℕ → List ℕ → Platform → ℕ → Input
+inputOf w h s p platform n = record { window = w; heap = h; sinit = s; policy = p; platform = platform; places = n }
+
+-- RANGES OF MEMORY
+
+abbrev pub dprRange : Platform → Range
+dprRange p = record { base = p .«dpr_base»; size = p .«dpr_size» }
+
+-- what the walk is told of the memory, by the lengths of heap and module: the PMRs are those of OsSinitData
+abbrev pub memoryFrom : ℕ → ℕ → Platform → OsSinitData → Memory
+memoryFrom heap sinit p o =
+    record {
+      window = p .«window_base»;
+      heap = record { base = p .«heap_base»; size = heap };
+      sinit = record { base = p .«sinit_base»; size = sinit };
+      dpr = dprRange p;
+      low = lowPmr o;
+      high = highPmr o;
+    }
+
+abbrev pub chipsetOf : Platform → Chipset
+chipsetOf p = record { vendor = p .vendor; device = p .device; revision = p .revision }
+
+-- GROUPS OF RULES
+
+abbrev pub mostWindow : ℕ
+mostWindow = 32 * 2 ^ 20
+
+abbrev pub mostHeap : ℕ
+mostHeap = 2 ^ 20
+
+abbrev pub highestEnd : ℕ
+highestEnd = 2 ^ 52
+
+-- 1. "window base no multiple of 4096; window over 32 MiB; heap over 1 MiB; base plus size of window, heap or DPR over 2^52"
+unfoldable pub platformTests : List ℕ → List ℕ → Platform → List Bool
+platformTests window heap p =
+    eqb (p .«window_base» % pageSize) 0
+    ∷ leb (length window) mostWindow
+    ∷ leb (length heap) mostHeap
+    ∷ endsBy (windowOf window (p .«window_base»)) highestEnd
+    ∷ endsBy (record { base = p .«heap_base»; size = length heap }) highestEnd
+    ∷ endsBy (dprRange p) highestEnd
+    ∷ []
+
+-- 12 and 13. "page list shorter than N"
+abbrev pub sizeRules : ℕ → ℕ → List Rule
+sizeRules mleSize places = rule 12 (all (sizeTests mleSize)) ∷ rule 13 (leb (pagesOf mleSize) places) ∷ []
+
+-- 21 and 22. "page count is not N"
+abbrev pub imageRules : List ℕ → Image → OsSinitData → ModuleData → List Rule
+imageRules window image o m =
+    rule 21 (eqb (image .count) (pagesOf (o .«mle_size»)))
+    ∷ rule 22 (all (headerTests window image (o .«mle_header_base») (o .«mle_size») (m .«min_mle_header_ver»)))
+    ∷ []
+
+-- the policy file where it stands in the window
+abbrev pub policyFile : List ℕ → Image → OsSinitData → List ℕ
+policyFile window image o = fileOf window (image .window) (o .«policy_file_base») (o .«policy_file_size»)
+
+-- 26 to 29
+abbrev pub listRulesOf : List ℕ → Image → List ℕ → OsSinitData → ModuleData → List Rule
+listRulesOf window image policy o m =
+    rule 26 (all (filePlaced window (image .window) (o .«policy_file_base») (o .«policy_file_size»)))
+    ∷ rule 27 (ofGrammar (policyFile window image o))
+    ∷ rule 28 (hashMatches (policyFile window image o) policy)
+    ∷ rule 29 (somePermits (policyFile window image o) (imageDigest window image) (m .«acm_version»))
+    ∷ []
+
+-- "Rules 26 to 29 are tried under LIST only."
+abbrev pub listRules : List ℕ → Image → List ℕ → OsSinitData → ModuleData → List Rule
+listRules window image policy o m = cond (eqb (policyType policy) LIST) (listRulesOf window image policy o m) []
+
+-- WHAT ONE GROUP FINDS AND LATER GROUPS READ
+
+module _ (i : Input) where
+  -- the fields of OsSinitData, and the numbers of the module
+  abbrev pub os : OsSinitData
+  os = heapFields (i .heap)
+
+  abbrev pub acm : ModuleData
+  acm = sinit.valuesOf (i .sinit)
+
+  abbrev pub memory : Memory
+  memory = memoryFrom (length (i .heap)) (length (i .sinit)) (i .platform) os
+
+  -- the pages that the walk finds
+  abbrev pub met : State
+  met = metOf (i .window) memory (os .«page_table_base»)
+
+  abbrev pub image : Image
+  image =
+      record {
+        window = i .platform .«window_base»;
+        tables = os .«page_table_base»;
+        first = met .first;
+        count = met .count;
+      }
+
+  -- ALL RULES. "Lower numbers come first, except 14 to 20, which follow the walk."
+  unfoldable pub rules : List Rule
+  rules =
+      -- 1
+      rule 1 (all (platformTests (i .window) (i .heap) (i .platform)))
+      -- 2 to 5
+      ∷ (heapRules (i .heap)
+      -- 6 to 11
+      ++ (sinit.rules (i .sinit) (i .platform .«sinit_base») (i .platform .«acram_capacity») (chipsetOf (i .platform)) (os .version)
+      -- 12, 13
+      ++ (sizeRules (os .«mle_size») (i .places)
+      -- 14 to 20
+      ++ (walkRules (i .window) memory (os .«page_table_base»)
+      -- 21, 22
+      ++ (imageRules (i .window) image os acm
+      -- 23 to 25
+      ++ (recordRules (i .policy) (acm .flags) (acm .«acm_version»)
+      -- 26 to 29
+      ++ listRules (i .window) image (i .policy) os acm))))))

@@ -1,0 +1,73 @@
+-- The tests of a capture say what its propositions say, and its parts are the bytes between their offsets.
+use Prim.Native.Nat.{ℕ, _+_, _-_}
+use mathlib.Core.Path.{_≡_, refl, sym, _∙_, ap}
+use mathlib.Core.Bool.{Bool, true, false, not}
+use mathlib.Core.List.{List}
+use native.Mathlib.Omega.{arith}
+use borrow.Author.Tests.{leb-true, le-leb, eqb-true, eq-eqb, not-true, not-false}
+use lib.ListN.{length, take, drop}
+use Rattle.field.proofs.Laws.{marked-at}
+use Rattle.range.specs.Rules.{all}
+use Rattle.range.proofs.Tests.{_&_, each}
+use Rattle.launch.specs.declared.Platform.{Platform}
+use Rattle.launch.specs.declared.Answer.{Answer}
+use Rattle.launch.specs.Rules.{Input, inputOf}
+use Rattle.launch.specs.Answer.{refused, answerOf, placesOf}
+use Rattle.capture.specs.declared.Offsets.{Offsets}
+use Rattle.capture.specs.Capture.{platformOf, windowAt, offsetsOf, captureTests, CaptureExactly, notCapture, inputIn, captureAnswer, capturePlaces}
+
+pub capture-exactly : CaptureExactly
+unfolding captureTests
+capture-exactly s = (
+  λ e.
+      let t = each _ .0 e in
+      record {
+        least = leb-true _ _ (t .0);
+        most = leb-true _ _ (t .1 .0);
+        marked = marked-at _ _ _ .0 (t .1 .1 .0) .1;
+        known = eqb-true _ _ (t .1 .1 .1 .0);
+        whole = eqb-true _ _ (t .1 .1 .1 .1 .0);
+      },
+  λ h. each _ .1
+      (le-leb _ _ (h .least)
+      & le-leb _ _ (h .most)
+      & marked-at _ _ _ .1 (omega (arith, h .least), h .marked)
+      & eq-eqb _ _ (h .known)
+      & eq-eqb _ _ (h .whole)
+      & tt),
+)
+
+-- the parts between the offsets that were worked out
+module _ (s : List ℕ) (o : Offsets) (p : Platform) (n : ℕ) where
+  abbrev lent : Input
+  lent =
+      inputOf
+      (take (o .heap - windowAt) (drop windowAt s))
+      (take (o .sinit - o .heap) (drop (o .heap) s))
+      (take (o .policy - o .sinit) (drop (o .sinit) s))
+      (take (o .end - o .policy) (drop (o .policy) s))
+      p
+      n
+
+  after : (a b : ℕ) → a + b - a ≡ b
+  after a b = omega arith
+
+  parts : o ≡ offsetsOf s → p ≡ platformOf s → lent ≡ inputIn s n
+  parts e f = rw (e, f) (simp after)
+
+-- the answer and the page list of a string that is no capture, and of one that is
+module _ (s : List ℕ) (t : Bool) (is-test : t ≡ all (captureTests s)) where
+  pub no-capture : not t ≡ true → (n : ℕ) (places : List ℕ) → (refused notCapture ≡ captureAnswer s n) × (places ≡ capturePlaces s places)
+  unfolding captureAnswer capturePlaces
+  no-capture h n places = rw (← is-test, not-true t h) (refl, refl)
+
+  pub a-capture : not t ≡ false → (o : Offsets) (p : Platform) → o ≡ offsetsOf s → p ≡ platformOf s → (places : List ℕ) (r : Answer) (later : List ℕ)
+      → r ≡ answerOf (lent s o p (length places)) → later ≡ placesOf (lent s o p (length places)) places
+      → (r ≡ captureAnswer s (length places)) × (later ≡ capturePlaces s places)
+  unfolding captureAnswer capturePlaces
+  a-capture h o p e f places r later x y =
+      let l = parts s o p (length places) e f in
+      rw (← is-test, not-false t h) (x ∙ ap answerOf l, y ∙ ap (λ (i : Input). placesOf i places) l)
+
+  pub whole : not t ≡ false → (o : Offsets) → o ≡ offsetsOf s → o .end ≡ length s
+  whole h o e = ap (λ (x : Offsets). x .end) e ∙ capture-exactly s .0 (sym is-test ∙ not-false t h) .whole

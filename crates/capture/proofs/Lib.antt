@@ -1,0 +1,3 @@
+-- The laws of captures and of the text of the answer.
+pub mod Conditions
+pub mod Lines

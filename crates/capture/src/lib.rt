@@ -1,0 +1,140 @@
+// Capture files: all that the check is handed over, in one string, and the answer for it.
+mod text;
+
+use field::number_or_zero;
+use launch::Answer;
+use launch::Platform;
+pub use text::Line;
+pub use text::first_line;
+pub use text::page_line;
+ghost use mathlib.Core.Path.{_≡_};
+ghost use Prim.Native.Nat.{_<_, _≤_, _^_};
+ghost use lib.ListN.{length};
+ghost use Rattle.range.specs.Rules.{all};
+ghost use Rattle.field.specs.Field.{numberAt};
+ghost use Rattle.launch.specs.Answer.{refused};
+ghost use Rattle.capture.specs.Capture.{platformOf, offsetsOf, captureTests, notCapture, captureAnswer, capturePlaces};
+
+// The number of a string that is no capture.
+const NOT_CAPTURE: u32 = 30;
+
+const VERSION: u64 = 1;
+
+const LARGEST: usize = 65536;
+
+// The offset of the window.
+const WINDOW: usize = 75;
+
+// The offsets of the four lengths.
+const WINDOW_LENGTH: usize = 59;
+
+const HEAP_LENGTH: usize = 63;
+
+const SINIT_LENGTH: usize = 67;
+
+const POLICY_LENGTH: usize = 71;
+
+fn number16(s: &[u8], at: usize) -> u16
+    ensures { λ r. ⌜ r ≡ numberAt (now (s .entry)) at 2 ⌝ }
+{
+    number_or_zero(s, at, 2) as u16
+}
+
+fn length(s: &[u8], at: usize) -> usize
+    ensures { λ r. ⌜ (r ≡ numberAt (now (s .entry)) at 4) × (r < 2 ^ 32) ⌝ }
+{
+    number_or_zero(s, at, 4) as usize
+}
+
+fn platform(s: &[u8]) -> Platform
+    ensures { λ r. ⌜ r ≡ platformOf (now (s .entry)) ⌝ }
+{
+    Platform {
+        window_base: number_or_zero(s, 5, 8),
+        heap_base: number_or_zero(s, 13, 8),
+        sinit_base: number_or_zero(s, 21, 8),
+        dpr_base: number_or_zero(s, 29, 8),
+        dpr_size: number_or_zero(s, 37, 8),
+        acram_capacity: number_or_zero(s, 45, 8),
+        vendor: number16(s, 53),
+        device: number16(s, 55),
+        revision: number16(s, 57),
+    }
+}
+
+// Where the parts after the window begin, and where the last ends.
+pub struct Offsets {
+    pub heap: usize,
+    pub sinit: usize,
+    pub policy: usize,
+    pub end: usize,
+}
+
+fn offsets_in(s: &[u8]) -> Offsets
+    ensures { λ r. ⌜ (r ≡ offsetsOf (now (s .entry))) × (75 ≤ r .heap) × (r .heap ≤ r .sinit) × (r .sinit ≤ r .policy) × (r .policy ≤ r .end) ⌝ }
+{
+    let heap = WINDOW + length(s, WINDOW_LENGTH);
+    let sinit = heap + length(s, HEAP_LENGTH);
+    let policy = sinit + length(s, SINIT_LENGTH);
+    let end = policy + length(s, POLICY_LENGTH);
+    Offsets {
+        heap,
+        sinit,
+        policy,
+        end,
+    }
+}
+
+// Whether a string is a capture.
+pub fn holds(s: &[u8]) -> bool
+    ensures { λ r. ⌜ r ≡ all (captureTests (now (s .entry))) ⌝ }
+{
+    if s.len() < WINDOW {
+        return false;
+    }
+    if LARGEST < s.len() {
+        return false;
+    }
+    if !field::marked(s, 0, b"LPC") {
+        return false;
+    }
+    if number_or_zero(s, 3, 2) != VERSION {
+        return false;
+    }
+    offsets_in(s).end == s.len()
+}
+
+// The answer where there is no capture, or none that could be read to its end.
+pub fn no_capture() -> Answer
+    ensures { λ r. ⌜ r ≡ refused notCapture ⌝ }
+{
+    Answer {
+        number: NOT_CAPTURE,
+        pages: 0,
+        list: 255,
+        digest: [0u8; 32],
+    }
+}
+
+// The answer for a capture, and on permission the addresses of the pages in the first places of the page list.
+pub fn check(s: &[u8], pages: &mut [u64]) -> Answer
+    ensures answer { λ r. ⌜ r ≡ captureAnswer (now (s .entry)) (length (now (pages .entry))) ⌝ }
+    ensures places { λ _. ⌜ now (pages .exit) ≡ capturePlaces (now (s .entry)) (now (pages .entry)) ⌝ }
+{
+    if !holds(s) {
+        return no_capture();
+    }
+    let at = offsets_in(s);
+    let heap = at.heap;
+    let sinit = at.sinit;
+    let policy = at.policy;
+    let end = at.end;
+    launch::check(
+        &s[WINDOW..heap],
+        &s[heap..sinit],
+        &s[sinit..policy],
+        &s[policy..end],
+        platform(s),
+        pages,
+    )
+}

@@ -1,14 +1,14 @@
-//! Links the static library of the crate `sha256_exports`, which `rt staticlib sha256_exports` writes.
+//! Links the static library of the crate `bleiwurzel`, which `rt staticlib bleiwurzel` writes.
 
 use std::path::PathBuf;
 
 fn main() {
     let folder = PathBuf::from(std::env::var("CARGO_MANIFEST_DIR").unwrap()).join("../../target/staticlib");
-    let archive = folder.join("libsha256_exports.a");
+    let archive = folder.join("libbleiwurzel.a");
     if !archive.exists() {
-        panic!("{} is missing: run 'rt staticlib sha256_exports' first", archive.display());
+        panic!("{} is missing: run 'rt staticlib bleiwurzel' first", archive.display());
     }
     println!("cargo:rustc-link-search=native={}", folder.display());
-    println!("cargo:rustc-link-lib=static=sha256_exports");
+    println!("cargo:rustc-link-lib=static=bleiwurzel");
     println!("cargo:rerun-if-changed={}", archive.display());
 }

@@ -1,5 +1,6 @@
 //! SHA-256 in plain portable Rust, as one would write it for speed without proofs: the baseline of the benchmark.
 
+#[rustfmt::skip]
 const K: [u32; 64] = [
     0x428a2f98, 0x71374491, 0xb5c0fbcf, 0xe9b5dba5, 0x3956c25b, 0x59f111f1, 0x923f82a4, 0xab1c5ed5,
     0xd807aa98, 0x12835b01, 0x243185be, 0x550c7dc3, 0x72be5d74, 0x80deb1fe, 0x9bdc06a7, 0xc19bf174,
@@ -11,6 +12,7 @@ const K: [u32; 64] = [
     0x748f82ee, 0x78a5636f, 0x84c87814, 0x8cc70208, 0x90befffa, 0xa4506ceb, 0xbef9a3f7, 0xc67178f2,
 ];
 
+#[rustfmt::skip]
 const H0: [u32; 8] = [
     0x6a09e667, 0xbb67ae85, 0x3c6ef372, 0xa54ff53a, 0x510e527f, 0x9b05688c, 0x1f83d9ab, 0x5be0cd19,
 ];
@@ -38,11 +40,7 @@ fn small_sigma1(x: u32) -> u32 {
 // One round. The names of the variables move, not their values; `bc` is the xor of b and c, which was that of a and b before.
 macro_rules! round {
     ($a:ident, $b:ident, $c:ident, $d:ident, $e:ident, $f:ident, $g:ident, $h:ident, $bc:ident, $k:expr, $w:expr) => {
-        let t1 = $h
-            .wrapping_add(big_sigma1($e))
-            .wrapping_add($g ^ ($e & ($f ^ $g)))
-            .wrapping_add($k)
-            .wrapping_add($w);
+        let t1 = $h.wrapping_add(big_sigma1($e)).wrapping_add($g ^ ($e & ($f ^ $g))).wrapping_add($k).wrapping_add($w);
         $d = $d.wrapping_add(t1);
         let ab = $a ^ $b;
         $h = t1.wrapping_add(big_sigma0($a)).wrapping_add($b ^ (ab & $bc));

@@ -1,4 +1,4 @@
-//! The proved digest, by the static library of the crate `sha256_exports`.
+//! The proved digest, by the static library of the crate `bleiwurzel`.
 
 extern "C" {
     fn bleiwurzel_sha256(message: *const u8, length: usize, digest: *mut [u8; 32]);

@@ -1,7 +1,7 @@
-//! Times the page list of an image of 4,096 pages, which looks each page up and writes its address, against the digest of the
-//! pages. The two take turns in one process.
+//! Times the page work of an image of 4,096 pages, which is the walk through its tables and the page list (each page looked up, its
+//! address written), against the digest of the pages. The two take turns in one process.
 //!
-//! With `--at-most R` it fails where the page list takes more than R of the digest's time. For that the median of the ratios of
+//! With `--at-most R` it fails where the page work takes more than R of the digest's time. For that the median of the ratios of
 //! neighbouring runs counts, which another program on the machine changes least.
 
 mod image;
@@ -34,7 +34,7 @@ fn main() {
         _ => panic!("usage: pages_bench [--at-most RATIO]"),
     };
     let window = image::window();
-    let mut best = [Duration::MAX; 2];
+    let mut best = [Duration::MAX; 3];
     let mut ratios = Vec::with_capacity(RUNS);
     for run in 0..RUNS {
         let mut pages = vec![0u64; COUNT + 1];
@@ -42,20 +42,24 @@ fn main() {
         let digest = proved::digest_of_pages(&window, BASE, FIRST, COUNT as u32);
         let hashed = start.elapsed();
         let start = Instant::now();
+        let walked = proved::walk(&window, BASE);
+        let walk = start.elapsed();
         proved::page_list(&window, BASE, FIRST, COUNT as u32, &mut pages);
-        let listed = start.elapsed();
+        let work = start.elapsed();
+        assert_eq!(walked, (0, FIRST, COUNT as u32), "the walk's number, first page and count");
         if run == 0 {
             check(&window, digest, &pages);
         }
-        best = [best[0].min(hashed), best[1].min(listed)];
-        ratios.push(listed.as_secs_f64() / hashed.as_secs_f64());
+        best = [best[0].min(hashed), best[1].min(walk), best[2].min(work)];
+        ratios.push(work.as_secs_f64() / hashed.as_secs_f64());
     }
     let median = median_of(ratios);
     println!(
-        "{COUNT} pages: digest {:.1} µs, page list {:.1} µs, {:.5} of the digest's time (best of {RUNS} runs each; median of neighbours {median:.5})",
+        "{COUNT} pages: digest {:.1} µs, walk {:.1} µs, walk and page list {:.1} µs, {:.5} of the digest's time (best of {RUNS} runs each; median of neighbours {median:.5})",
         best[0].as_secs_f64() * 1e6,
         best[1].as_secs_f64() * 1e6,
-        best[1].as_secs_f64() / best[0].as_secs_f64(),
+        best[2].as_secs_f64() * 1e6,
+        best[2].as_secs_f64() / best[0].as_secs_f64(),
     );
     if median > limit {
         eprintln!("over {limit} of the digest's time");

@@ -1,6 +1,23 @@
-//! The proved digest of the pages and the proved page list, by the static library of the crate `mle_exports`.
+//! The proved walk through the page tables, digest of the pages and page list, by the static library of the crate `bleiwurzel`.
 
 extern "C" {
+    fn bleiwurzel_walk(
+        window: *const u8,
+        length: usize,
+        base: u64,
+        tables: u64,
+        heap: u64,
+        heap_size: u64,
+        sinit: u64,
+        sinit_size: u64,
+        dpr: u64,
+        dpr_size: u64,
+        low: u64,
+        low_size: u64,
+        high: u64,
+        high_size: u64,
+        mapped: *mut [u32; 2],
+    ) -> u32;
     fn bleiwurzel_digest_of_pages(
         window: *const u8,
         length: usize,
@@ -20,6 +37,34 @@ extern "C" {
         pages: *mut u64,
         places: usize,
     );
+}
+
+/// The walk: the number, the first linear page and how many there are. The table base is the window's, DPR covers the window, and
+/// there are no PMRs; heap and module lie above the window.
+pub fn walk(window: &[u8], base: u64) -> (u32, u32, u32) {
+    let end = base + window.len() as u64;
+    let mut mapped = [0u32; 2];
+    // SAFETY: the slice lends its bytes for reading, and the array is this function's own.
+    let number = unsafe {
+        bleiwurzel_walk(
+            window.as_ptr(),
+            window.len(),
+            base,
+            base,
+            end,
+            0x1000,
+            end + 0x1000,
+            0x8000,
+            base,
+            window.len() as u64,
+            0,
+            0,
+            0,
+            0,
+            &mut mapped,
+        )
+    };
+    (number, mapped[0], mapped[1])
 }
 
 /// The digest of `count` pages from the linear page `first` on. The table base is the window's.

@@ -9,8 +9,8 @@ use lib.Seq.{take-add, take-all}
 use Rattle.sha256.specs.declared.Running.{Running}
 use Rattle.sha256.specs.State.{Absorbed, Holds}
 use Rattle.sha256.proofs.Parts.{start-holds, absorb-holds, finish-holds}
-use Rattle.sha256_exports.proofs.bleiwurzel_sha256_in_parts.Statement.{statement}
-use Rattle.sha256_exports.proofs.bleiwurzel_sha256_in_parts.Tie as tie
+use Rattle.bleiwurzel.proofs.measured.bleiwurzel_sha256_in_parts.Statement.{statement}
+use Rattle.bleiwurzel.proofs.measured.bleiwurzel_sha256_in_parts.Tie as tie
 
 -- one part more
 longer : (s r : Running) (m : List ℕ) (at e : ℕ) → at ≤ e → Holds s (take at m) → Absorbed s (take (e - at) (drop at m)) r → Holds r (take e m)

@@ -1,0 +1,31 @@
+-- What the reader answers, as a kind and an array of numbers.
+use Prim.Native.Nat.{ℕ}
+use mathlib.Core.List.{List, [], _∷_}
+use lib.ListN.{replicate}
+use Rattle.policy.specs.declared.ListAnswer.{ListAnswer}
+use Rattle.policy.specs.declared.ListAnswer.the-variants as lists
+use Rattle.policy.specs.declared.ElementAnswer.{ElementAnswer}
+use Rattle.policy.specs.declared.ElementAnswer.the-variants.{Launch, Custom, Unjudged, Refused}
+
+abbrev pub listKind : ListAnswer → ℕ
+listKind lists.Absent = 0
+listKind (lists.Unsigned start size version es n) = 1
+listKind (lists.Signed start size version es n c k key signature) = 2
+
+abbrev pub listFields : ListAnswer → List ℕ
+listFields lists.Absent = replicate 9 0
+listFields (lists.Unsigned start size version es n) = start ∷ size ∷ version ∷ es ∷ n ∷ 0 ∷ 0 ∷ 0 ∷ 0 ∷ []
+listFields (lists.Signed start size version es n c k key signature) = start ∷ size ∷ version ∷ es ∷ n ∷ c ∷ k ∷ key ∷ signature ∷ []
+
+abbrev pub elementKind : ElementAnswer → ℕ
+elementKind Refused = 0
+elementKind (Launch start size control m v a n) = 1
+elementKind (Custom start size control) = 2
+elementKind (Unjudged start size type control) = 3
+
+-- a launch element has type 0x10 and a custom one type 3
+abbrev pub elementFields : ElementAnswer → List ℕ
+elementFields Refused = replicate 8 0
+elementFields (Launch start size control m v a n) = start ∷ size ∷ 0x10 ∷ control ∷ m ∷ v ∷ a ∷ n ∷ []
+elementFields (Custom start size control) = start ∷ size ∷ 3 ∷ control ∷ 0 ∷ 0 ∷ 0 ∷ 0 ∷ []
+elementFields (Unjudged start size type control) = start ∷ size ∷ type ∷ control ∷ 0 ∷ 0 ∷ 0 ∷ 0 ∷ []

@@ -4,8 +4,8 @@ use native.Mathlib.Omega.{arith}
 use lib.ListN.{length}
 use lib.Seq.{length-take-le}
 use borrow.Author.Needs.{needs}
-use Rattle.launch_check.proofs.print_line.Statement.{statement}
-use Rattle.launch_check.proofs.print_line.Tie as tie
+use Rattle.capture_io.proofs.print_line.Statement.{statement}
+use Rattle.capture_io.proofs.print_line.Tie as tie
 
 array-share-prefix-bytes : tie.Need-array-share-prefix-bytes
 array-share-prefix-bytes c =

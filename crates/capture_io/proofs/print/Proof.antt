@@ -1,18 +1,27 @@
--- `print_pages` ends: i is within the page list.
+-- `print` ends: i is within the page list.
 use Prim.Native.Nat.{_≤_, _-_}
 use lib.ListN.{length}
 use borrow.Author.Needs.{needs}
-use Rattle.launch_check.proofs.print_pages.Statement.{statement}
-use Rattle.launch_check.proofs.print_pages.Tie as tie
+use Rattle.capture_io.proofs.print.Statement.{statement}
+use Rattle.capture_io.proofs.print.Tie as tie
 
 abbrev Inv-loop : tie.InvT-loop
-Inv-loop pages count i₀ i = i ≤ length pages
+Inv-loop fd a pages i₀ i = i ≤ length pages
 
 abbrev μ-loop : tie.MeasureT-loop
-μ-loop pages count i₀ i = length pages - i
+μ-loop fd a pages i₀ i = length pages - i
+
+first-line-requires : tie.Need-first-line-requires Inv-loop μ-loop
+first-line-requires c κs = search needs
+
+print-line-requires : tie.Need-print-line-requires Inv-loop μ-loop
+print-line-requires c κs = search needs
 
 loop-holds : tie.Need-loop-holds Inv-loop μ-loop
 loop-holds c = search needs
+
+cast-if1 : tie.Need-cast-if1 Inv-loop μ-loop
+cast-if1 c = search needs
 
 mul-page-line : tie.Need-mul-page-line Inv-loop μ-loop
 mul-page-line c = search needs
@@ -44,13 +53,16 @@ returns c = search needs
 returns-2 : tie.Need-returns-2 Inv-loop μ-loop
 returns-2 c = search needs
 
-pub print-pages-spec : {M : Type 1} → statement M
-print-pages-spec =
+pub print-spec : {M : Type 1} → statement M
+print-spec =
     tie.close
     (tie.spec
     Inv-loop
     μ-loop
+    first-line-requires
+    print-line-requires
     loop-holds
+    cast-if1
     mul-page-line
     shared-slice-read-page-line
     page-line-requires

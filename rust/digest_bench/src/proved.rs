@@ -1,5 +1,8 @@
 //! The proved digest, by the static library of the crate `bleiwurzel`.
 
+// The crate brings the static library.
+use bleiwurzel as _;
+
 extern "C" {
     fn bleiwurzel_sha256(message: *const u8, length: usize, digest: *mut [u8; 32]);
     fn bleiwurzel_sha256_in_parts(message: *const u8, length: usize, part: usize, digest: *mut [u8; 32]);

@@ -1,5 +1,8 @@
 //! The proved walk through the page tables, digest of the pages and page list, by the static library of the crate `bleiwurzel`.
 
+// The crate brings the static library.
+use bleiwurzel as _;
+
 extern "C" {
     fn bleiwurzel_walk(
         window: *const u8,

@@ -1,0 +1,292 @@
+/*
+ * Bleiwurzel: whether the next Intel TXT launch will succeed. The interface of libbleiwurzel.a for C11 and C++.
+ *
+ * What is lent. Every `const uint8_t *` with the length behind it is lent for reading during the call and not kept. Every pointer without
+ * `const` is lent for writing during the call; what is written there is said at each function. Memory that is written may not overlap memory
+ * that is read or written under another name in the same call. A part of length 0 is allowed everywhere; its pointer is not followed but must
+ * not be NULL (any object's address will do).
+ *
+ * What is asked of the caller. Nothing else: every function answers for every content and every number, ends, allocates nothing, has no state
+ * of its own and may be called from several threads at once. No address is followed but those of the arguments; physical addresses are numbers.
+ *
+ * A physical address p is byte (p - window_base) of the window. All numbers in the images are little-endian.
+ */
+#ifndef BLEIWURZEL_H
+#define BLEIWURZEL_H
+
+#include <stddef.h>
+#include <stdint.h>
+
+#ifdef __cplusplus
+extern "C" {
+#endif
+
+/* The numbers of an answer, in the order in which they are tried; 14 to 20 follow the walk through the page tables. Rules 26 to 29 are tried
+ * under a LIST policy only. docs/REFUSALS.md has causes and remedies. */
+enum bleiwurzel_number {
+    /* The launch is permitted. */
+    BLEIWURZEL_PERMITTED = 0,
+    /* The window base is no multiple of 4096, the window is over 32 MiB, the heap is over 1 MiB, or base plus size of window, heap or DPR is
+     * over 2^52. */
+    BLEIWURZEL_LIMITS = 1,
+    /* BiosData, OsMleData and OsSinitData do not fit into the heap, one behind the other. */
+    BLEIWURZEL_HEAP_PARTS = 2,
+    /* OsSinitData has fewer than 108 bytes, or its version is neither 6 nor 7. */
+    BLEIWURZEL_OSSINITDATA = 3,
+    /* The elements at the end of OsSinitData are malformed: one has a wrong size, or none ends the list. */
+    BLEIWURZEL_HEAP_ELEMENTS = 4,
+    /* A PMR in use lies on the wrong side of 4 GiB, or the high one ends above 2^52. */
+    BLEIWURZEL_PMR = 5,
+    /* The SINIT module's base or length is not one from which a processor starts it. */
+    BLEIWURZEL_MODULE_PLACE = 6,
+    /* The SINIT module's header has a wrong type, header length, version, vendor, size or key size. */
+    BLEIWURZEL_MODULE_HEADER = 7,
+    /* The GDT, the entry point or the segment selector in the SINIT module's header points to a wrong place. */
+    BLEIWURZEL_MODULE_ENTRY = 8,
+    /* The SINIT module's information table or its chipset list is malformed or not inside the module. */
+    BLEIWURZEL_MODULE_TABLE = 9,
+    /* No entry of the SINIT module's chipset list matches the platform's chipset. */
+    BLEIWURZEL_CHIPSET = 10,
+    /* The version of OsSinitData is above the one that the SINIT module knows. */
+    BLEIWURZEL_OSSINITDATA_VERSION = 11,
+    /* MLE Size is 0, no multiple of 4096, or over 4096 pages. */
+    BLEIWURZEL_MLE_SIZE = 12,
+    /* The page list that the caller lends has fewer places than the image has pages. */
+    BLEIWURZEL_PAGE_LIST = 13,
+    /* A present table entry has a bit set that must be 0, or the page table base is no multiple of 4096. */
+    BLEIWURZEL_ENTRY_BITS = 14,
+    /* A table or a page does not lie wholly inside the memory window. */
+    BLEIWURZEL_OUTSIDE_WINDOW = 15,
+    /* An address in the tables is not above the one found before it. */
+    BLEIWURZEL_NOT_ASCENDING = 16,
+    /* A table or a page touches 0xA0000 to 0xFFFFF, the heap or the SINIT module. */
+    BLEIWURZEL_FORBIDDEN_RANGE = 17,
+    /* The tables take a seventeenth page, the pointer table and the directories counted. */
+    BLEIWURZEL_TABLE_PAGES = 18,
+    /* The image's linear pages do not follow one another: there is a gap. */
+    BLEIWURZEL_LINEAR_GAP = 19,
+    /* A page of the image does not lie wholly in DPR, in the low PMR or in the high PMR. */
+    BLEIWURZEL_NOT_PROTECTED = 20,
+    /* The tables map another number of pages than MLE Size says. */
+    BLEIWURZEL_PAGE_COUNT = 21,
+    /* The MLE header is not mapped, crosses the end of its page, or has a field that does not fit the image. */
+    BLEIWURZEL_MLE_HEADER = 22,
+    /* The policy record does not have 70 bytes, major version 3, HashAlg 0x000B and type LIST or ANY. */
+    BLEIWURZEL_POLICY_RECORD = 23,
+    /* The SINIT module is not production worthy (a debug or pre-production module), and the policy record does not allow that. */
+    BLEIWURZEL_NOT_PRODUCTION = 24,
+    /* The SINIT module's AcmVersion is below the policy record's SINITMinVersion. */
+    BLEIWURZEL_MODULE_VERSION = 25,
+    /* The policy file does not lie wholly in the memory window, or its size is not 36 to 65536 bytes. */
+    BLEIWURZEL_POLICY_PLACE = 26,
+    /* The policy file is not of the grammar: a mark, a version, a count or a size in it is wrong. */
+    BLEIWURZEL_POLICY_GRAMMAR = 27,
+    /* The policy file's lists do not hash to the policy record's PolicyHash. */
+    BLEIWURZEL_POLICY_HASH = 28,
+    /* No list of the policy file permits this image. */
+    BLEIWURZEL_NO_LIST = 29,
+    /* The file is no capture: its mark, version or lengths are wrong, or it has over 65536 bytes. */
+    BLEIWURZEL_CAPTURE = 30
+};
+
+/* The list of an answer where no list permits: on every refusal, and under an ANY policy. */
+#define BLEIWURZEL_NO_LIST_INDEX 255u
+
+/* The most pages that an image can have: with as many places in the page list, 13 is never answered. */
+#define BLEIWURZEL_MOST_PAGES 4096u
+
+/* The platform, as chipset registers and firmware report it. */
+struct bleiwurzel_platform {
+    uint64_t window_base;    /* physical address of the window's first byte */
+    uint64_t heap_base;      /* physical address of the TXT heap (TXT.HEAP.BASE) */
+    uint64_t sinit_base;     /* physical address of the SINIT module (TXT.SINIT.BASE) */
+    uint64_t dpr_base;       /* DMA protected range: first byte .. */
+    uint64_t dpr_size;       /* .. and size in bytes; 0 if there is none */
+    uint64_t acram_capacity; /* the most bytes of an authenticated module (GETSEC[PARAMETERS]) */
+    uint16_t vendor;         /* chipset vendor, device and revision (TXT.DIDVID) */
+    uint16_t device;
+    uint16_t revision;
+};
+
+/* The answer. On a refusal pages is 0, list 255 and the digest all zero. */
+struct bleiwurzel_answer {
+    uint32_t number;    /* 0 permitted, else the refusal; see enum bleiwurzel_number */
+    uint32_t pages;     /* N, how many pages the image has, which is MLE Size / 4096 */
+    uint32_t list;      /* the lowest list that permits, counted from 0; 255 under ANY */
+    uint8_t digest[32]; /* SHA-256 over the N pages in linear order */
+};
+
+/* ---- The check ---------------------------------------------------------------------------------------------------------------------- */
+
+/*
+ * Whether the next launch will succeed.
+ *
+ * Lent for reading: window, heap, sinit (the SINIT module) and policy (the policy record of 70 bytes), each with its length in bytes. The
+ * policy file of a LIST policy is read from the window, where OsSinitData says it is. The nine numbers after them are the platform's, in the
+ * order of struct bleiwurzel_platform.
+ * Written: pages, a list of `places` 64-bit numbers: on a permission (0) its first counts[0] places get the physical addresses of the pages in
+ * linear order and its other places stay; on a refusal every place stays. counts always: [0] the number of pages, [1] the list. digest always:
+ * the digest of the pages. On a refusal counts gets 0 and 255, and digest 32 zeros.
+ * Answers 0 to 29; never 30.
+ */
+uint32_t bleiwurzel_check(const uint8_t *window, size_t window_length, const uint8_t *heap, size_t heap_length, const uint8_t *sinit,
+                          size_t sinit_length, const uint8_t *policy, size_t policy_length, uint64_t window_base, uint64_t heap_base,
+                          uint64_t sinit_base, uint64_t dpr_base, uint64_t dpr_size, uint64_t acram_capacity, uint16_t vendor,
+                          uint16_t device, uint16_t revision, uint64_t *pages, size_t places, uint32_t counts[2], uint8_t digest[32]);
+
+/*
+ * The same for a capture file: the mark `LPC`, 16-bit version 1, the platform, four 32-bit lengths (window, heap, module, record), the four
+ * parts; 75 bytes before the parts, at most 65536 in all, nothing after.
+ *
+ * Lent for reading: capture. Written: as by bleiwurzel_check.
+ * Answers 0 to 30; 30 where the bytes are no capture.
+ */
+uint32_t bleiwurzel_check_capture(const uint8_t *capture, size_t capture_length, uint64_t *pages, size_t places, uint32_t counts[2],
+                                  uint8_t digest[32]);
+
+/* ---- The reader of policy files ----------------------------------------------------------------------------------------------------- */
+
+/*
+ * Whether a string is a policy file: 0 if it is, 26 if it does not have 36 to 65536 bytes, else 27 (not of the grammar).
+ *
+ * Lent for reading: file. Written: lists[0], the number of its lists (1 to 8), or 0 where it is refused.
+ */
+uint32_t bleiwurzel_policy(const uint8_t *file, size_t file_length, uint64_t lists[1]);
+
+/* What bleiwurzel_policy_list answers, and what it writes where. Offsets count from the file's first byte. */
+enum { BLEIWURZEL_LIST_NONE = 0, BLEIWURZEL_LIST_UNSIGNED = 1, BLEIWURZEL_LIST_SIGNED = 2 };
+enum {
+    BLEIWURZEL_LIST_OFFSET = 0,
+    BLEIWURZEL_LIST_SIZE = 1,     /* the whole list, key and signature included */
+    BLEIWURZEL_LIST_VERSION = 2,  /* 0x0200 or 0x0201 */
+    BLEIWURZEL_LIST_ELEMENTS = 3, /* offset of the elements .. */
+    BLEIWURZEL_LIST_ELEMENTS_SIZE = 4,
+    BLEIWURZEL_LIST_COUNTER = 5,  /* this and the rest: 0 in an unsigned list */
+    BLEIWURZEL_LIST_KEY_SIZE = 6, /* 256 or 384; key and signature both have this size */
+    BLEIWURZEL_LIST_KEY = 7,      /* offset of the key */
+    BLEIWURZEL_LIST_SIGNATURE = 8 /* offset of the signature */
+};
+
+/*
+ * The list number i of a policy file, counted from 0: 0 where there is none (also for every i of a string that is refused), 1 for an unsigned
+ * list, 2 for a signed one. Any i may be asked.
+ *
+ * Lent for reading: file. Written: all nine fields, zeros where there is no list.
+ */
+uint32_t bleiwurzel_policy_list(const uint8_t *file, size_t file_length, size_t i, uint64_t fields[9]);
+
+/* What bleiwurzel_policy_element answers, and what it writes where. */
+enum {
+    BLEIWURZEL_ELEMENT_NONE = 0,
+    BLEIWURZEL_ELEMENT_LAUNCH = 1,  /* type 0x10 */
+    BLEIWURZEL_ELEMENT_CUSTOM = 2,  /* type 3 */
+    BLEIWURZEL_ELEMENT_UNJUDGED = 3 /* any other type: its list does not permit */
+};
+enum {
+    BLEIWURZEL_ELEMENT_OFFSET = 0,
+    BLEIWURZEL_ELEMENT_SIZE = 1, /* the whole element, its own 12 bytes included; the body begins at offset + 12 */
+    BLEIWURZEL_ELEMENT_TYPE = 2,
+    BLEIWURZEL_ELEMENT_CONTROL = 3,
+    BLEIWURZEL_ELEMENT_SINIT_MIN_VERSION = 4, /* this and the rest: 0 where the type is not 0x10 */
+    BLEIWURZEL_ELEMENT_RESERVED = 5,
+    BLEIWURZEL_ELEMENT_HASH_ALG = 6,
+    BLEIWURZEL_ELEMENT_DIGESTS = 7 /* how many digests; the first one begins at offset + 18 */
+};
+
+/*
+ * The element number j of the list number i, both counted from 0: 0 where there is none, 1 for a launch element (type 0x10), 2 for a custom
+ * one (type 3), 3 for another type. Any i and j may be asked.
+ *
+ * Lent for reading: file. Written: all eight fields, zeros where there is no element.
+ */
+uint32_t bleiwurzel_policy_element(const uint8_t *file, size_t file_length, size_t i, size_t j, uint64_t fields[8]);
+
+/* ---- Parts of the check by themselves ----------------------------------------------------------------------------------------------- */
+
+/*
+ * SHA-256 of a message.
+ *
+ * Lent for reading: message. Written: digest.
+ */
+void bleiwurzel_sha256(const uint8_t *message, size_t message_length, uint8_t digest[32]);
+
+/*
+ * The same digest, absorbed in parts of `part` bytes (the last one may be shorter), in one piece where part is 0.
+ *
+ * Lent for reading: message. Written: digest.
+ */
+void bleiwurzel_sha256_in_parts(const uint8_t *message, size_t message_length, size_t part, uint8_t digest[32]);
+
+/*
+ * The walk through the page tables by itself: 0, or 14 to 20. Rules 1 to 13 are not tried, and 21 is not either.
+ *
+ * Lent for reading: window. base is the physical address of its first byte, tables that of the pointer table; the ranges after them are the
+ * heap, the SINIT module, DPR, the low PMR and the high PMR, each as base and size in bytes; of size 0 they forbid or protect nothing.
+ * Written: mapped always: [0] the number of the first linear page, [1] how many pages there are; both 0 on a refusal.
+ */
+uint32_t bleiwurzel_walk(const uint8_t *window, size_t window_length, uint64_t base, uint64_t tables, uint64_t heap, uint64_t heap_size,
+                         uint64_t sinit, uint64_t sinit_size, uint64_t dpr, uint64_t dpr_size, uint64_t low, uint64_t low_size,
+                         uint64_t high, uint64_t high_size, uint32_t mapped[2]);
+
+/*
+ * SHA-256 over `count` pages from the linear page `first` on, as the tables at `tables` name them. It is meant for what bleiwurzel_walk
+ * accepts, with first and count as mapped gives them; no rule is tried here, and a page that is not wholly in the window adds no bytes.
+ *
+ * Lent for reading: window. Written: digest.
+ */
+void bleiwurzel_digest_of_pages(const uint8_t *window, size_t window_length, uint64_t base, uint64_t tables, uint32_t first, uint32_t count,
+                                uint8_t digest[32]);
+
+/*
+ * The physical addresses of the same pages: bits 12 to 51 of their entries.
+ *
+ * Lent for reading: window. Written: where places is at least count, the first count places of pages; the others stay, and all of them where
+ * places is below count.
+ */
+void bleiwurzel_page_list(const uint8_t *window, size_t window_length, uint64_t base, uint64_t tables, uint32_t first, uint32_t count,
+                          uint64_t *pages, size_t places);
+
+/* ---- Shorter to call ---------------------------------------------------------------------------------------------------------------- */
+
+/* bleiwurzel_check with the platform as a struct and the answer as a struct. pages is written as said there. */
+static inline struct bleiwurzel_answer bleiwurzel_launch(const uint8_t *window, size_t window_length, const uint8_t *heap,
+                                                         size_t heap_length, const uint8_t *sinit, size_t sinit_length,
+                                                         const uint8_t *policy, size_t policy_length,
+                                                         const struct bleiwurzel_platform *platform, uint64_t *pages, size_t places)
+{
+    struct bleiwurzel_answer answer;
+    uint32_t counts[2];
+    answer.number = bleiwurzel_check(window, window_length, heap, heap_length, sinit, sinit_length, policy, policy_length,
+                                     platform->window_base, platform->heap_base, platform->sinit_base, platform->dpr_base,
+                                     platform->dpr_size, platform->acram_capacity, platform->vendor, platform->device,
+                                     platform->revision, pages, places, counts, answer.digest);
+    answer.pages = counts[0];
+    answer.list = counts[1];
+    return answer;
+}
+
+/* bleiwurzel_check_capture with the answer as a struct. pages is written as said there. */
+static inline struct bleiwurzel_answer bleiwurzel_launch_capture(const uint8_t *capture, size_t capture_length, uint64_t *pages,
+                                                                 size_t places)
+{
+    struct bleiwurzel_answer answer;
+    uint32_t counts[2];
+    answer.number = bleiwurzel_check_capture(capture, capture_length, pages, places, counts, answer.digest);
+    answer.pages = counts[0];
+    answer.list = counts[1];
+    return answer;
+}
+
+/* How many lists a policy file has; 0 where the string is refused. */
+static inline size_t bleiwurzel_policy_lists(const uint8_t *file, size_t file_length)
+{
+    uint64_t lists[1];
+    bleiwurzel_policy(file, file_length, lists);
+    return (size_t)lists[0];
+}
+
+#ifdef __cplusplus
+}
+#endif
+
+#endif

@@ -1,0 +1,113 @@
+//! Capture files: all that a check needs in one file of at most 65,536 bytes.
+//!
+//! The mark `LPC`, 16-bit version 1, the platform in the order of [`Platform`], four 32-bit lengths (window, heap, module, record),
+//! then the four parts, and nothing after.
+
+use crate::{Parts, Platform};
+
+pub const MARK: &[u8; 3] = b"LPC";
+pub const VERSION: u16 = 1;
+/// The bytes before the parts.
+pub const HEAD: usize = 75;
+pub const MOST: usize = 65_536;
+/// The names of the four parts, and where in the head their lengths stand.
+pub const PARTS: [(&str, usize); 4] = [("window", 59), ("heap", 63), ("SINIT module", 67), ("policy record", 71)];
+
+/// Why bytes are no capture: the field, what it should be and what it is.
+#[derive(Clone, Debug, PartialEq, Eq)]
+pub struct Fault {
+    pub place: String,
+    pub expected: String,
+    pub found: String,
+}
+
+fn fault(place: impl Into<String>, expected: impl Into<String>, found: impl Into<String>) -> Fault {
+    Fault { place: place.into(), expected: expected.into(), found: found.into() }
+}
+
+fn number<const N: usize>(head: &[u8], at: usize) -> u64 {
+    let mut bytes = [0u8; 8];
+    bytes[..N].copy_from_slice(&head[at..at + N]);
+    u64::from_le_bytes(bytes)
+}
+
+fn platform(head: &[u8]) -> Platform {
+    Platform {
+        window_base: number::<8>(head, 5),
+        heap_base: number::<8>(head, 13),
+        sinit_base: number::<8>(head, 21),
+        dpr_base: number::<8>(head, 29),
+        dpr_size: number::<8>(head, 37),
+        acram_capacity: number::<8>(head, 45),
+        vendor: number::<2>(head, 53) as u16,
+        device: number::<2>(head, 55) as u16,
+        revision: number::<2>(head, 57) as u16,
+    }
+}
+
+/// The parts and the platform of a capture.
+pub fn split(capture: &[u8]) -> Result<(Parts<'_>, Platform), Fault> {
+    if capture.len() > MOST {
+        let found = format!("{} bytes or more", capture.len());
+        return Err(fault("the whole file", format!("at most {MOST} bytes"), found));
+    }
+    if capture.len() < HEAD {
+        let found = format!("{} bytes", capture.len());
+        return Err(fault("the whole file", format!("at least {HEAD} bytes, as many as stand before the parts"), found));
+    }
+    if &capture[..3] != MARK {
+        let found = format!("{:02x} {:02x} {:02x}", capture[0], capture[1], capture[2]);
+        return Err(fault("the mark, offset 0", "4c 50 43, which is LPC", found));
+    }
+    let version = number::<2>(capture, 3);
+    if version != u64::from(VERSION) {
+        return Err(fault("the version, offset 3", VERSION.to_string(), version.to_string()));
+    }
+    let lengths = PARTS.map(|(_, at)| number::<4>(capture, at));
+    let whole = HEAD as u64 + lengths.iter().sum::<u64>();
+    if whole != capture.len() as u64 {
+        let [window, heap, sinit, record] = lengths;
+        return Err(fault(
+            "the four lengths, offsets 59 to 74",
+            format!("lengths that make {} bytes with the {HEAD} of the head, as many as the file has", capture.len()),
+            format!("window {window}, heap {heap}, module {sinit}, record {record}, which makes {whole}"),
+        ));
+    }
+    let rest = &capture[HEAD..];
+    let (window, rest) = rest.split_at(lengths[0] as usize);
+    let (heap, rest) = rest.split_at(lengths[1] as usize);
+    let (sinit, record) = rest.split_at(lengths[2] as usize);
+    Ok((Parts { window, heap, sinit, record }, platform(capture)))
+}
+
+/// The capture of these parts, or the number of bytes that it would have where that is over the limit.
+pub fn make(parts: &Parts, platform: &Platform) -> Result<Vec<u8>, usize> {
+    let all = [parts.window, parts.heap, parts.sinit, parts.record];
+    let whole = HEAD + all.iter().map(|part| part.len()).sum::<usize>();
+    if whole > MOST {
+        return Err(whole);
+    }
+    let mut capture = Vec::with_capacity(whole);
+    capture.extend_from_slice(MARK);
+    capture.extend_from_slice(&VERSION.to_le_bytes());
+    for number in [
+        platform.window_base,
+        platform.heap_base,
+        platform.sinit_base,
+        platform.dpr_base,
+        platform.dpr_size,
+        platform.acram_capacity,
+    ] {
+        capture.extend_from_slice(&number.to_le_bytes());
+    }
+    for number in [platform.vendor, platform.device, platform.revision] {
+        capture.extend_from_slice(&number.to_le_bytes());
+    }
+    for part in all {
+        capture.extend_from_slice(&(part.len() as u32).to_le_bytes());
+    }
+    for part in all {
+        capture.extend_from_slice(part);
+    }
+    Ok(capture)
+}

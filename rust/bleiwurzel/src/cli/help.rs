@@ -1,0 +1,171 @@
+//! What `--help` prints on each level, in at most 80 columns.
+
+pub const MAIN: &str = "\
+bleiwurzel says before a measured host goes down whether its next Intel TXT
+launch will succeed.
+
+Usage:
+  bleiwurzel check ..       permitted or refused, for parts in files or for one
+                            capture file
+  bleiwurzel policy FILE    the reading of a policy file, list by list
+  bleiwurzel capture ..     make a capture file of the parts, or show one
+  bleiwurzel refusals [N]   what every refusal means and what to do; with a
+                            number, that one
+
+Every command has its own --help with examples, and --json for programs.
+
+Exit status: 0 permitted (or shown), 1 refused, 2 asked wrongly; then standard
+error says what to do.
+
+Begin with a capture that somebody sent you:
+  bleiwurzel check --capture host17.cap
+
+or with the parts of an image:
+  bleiwurzel check --help
+";
+
+pub const CHECK: &str = "\
+bleiwurzel check: will the next launch succeed?
+
+Usage:
+  bleiwurzel check --window FILE --heap FILE --sinit FILE --policy-record FILE
+                   --platform FILE [--json]
+  bleiwurzel check --capture FILE [--json]
+
+The parts:
+  --window FILE          the memory from the window base on, at most 32 MiB:
+                         page tables, image and, under a LIST policy, the
+                         policy file
+  --heap FILE            the TXT heap from its first byte on, at most 1 MiB
+  --sinit FILE           the SINIT module
+  --policy-record FILE   the policy record of the TPM, 70 bytes
+  --capture FILE         all parts and the platform in one file of at most
+                         65536 bytes
+
+The platform, by a file or by flags; a flag counts more than the file. Numbers
+are decimal, or hexadecimal with 0x:
+  --platform FILE        lines of the form key = value, with # for comments
+  --window-base N        physical address of the window's first byte
+  --heap-base N          TXT.HEAP.BASE
+  --sinit-base N         TXT.SINIT.BASE
+  --dpr-base N           the DMA protected range: its top minus its size
+  --dpr-size N           its size in bytes; 0 for none
+  --acram-capacity N     the most bytes of an authenticated module, by
+                         GETSEC[PARAMETERS]
+  --vendor N, --device N, --revision N
+                         the chipset, TXT.DIDVID: bits 0 to 15, 16 to 31 and
+                         32 to 47
+
+A platform file:
+  window_base = 0x100000
+  heap_base = 0x300000
+  sinit_base = 0x200000
+  dpr_base = 0x100000
+  dpr_size = 0x100000
+  acram_capacity = 0x8000
+  vendor = 0x8086
+  device = 0xb002
+  revision = 1
+
+Answers:
+  permitted   the image's pages as ranges of physical memory, the policy list
+              that permits (counted from 0; none under ANY), and SHA-256 over
+              the pages. Exit status 0.
+  refused     the number, what it means, what was found and where, and what to
+              do. Exit status 1. The number is the proved check's. What was
+              found is worked out beside it; where that cannot say, it says
+              nothing.
+
+Examples:
+  A capture, for people and for programs (one JSON object on one line):
+    bleiwurzel check --capture host17.cap
+    bleiwurzel check --capture host17.cap --json
+  An image of any size by its parts:
+    bleiwurzel check --window window.bin --heap heap.bin --sinit sinit.bin \\
+        --policy-record record.bin --platform host17.txt
+  The same, if there were no DPR:
+    bleiwurzel check .. --platform host17.txt --dpr-size 0
+";
+
+pub const POLICY: &str = "\
+bleiwurzel policy: the reading of a policy file (LCP policy data), in the manner
+of tboot's lcp2_crtpol --show.
+
+Usage:
+  bleiwurzel policy FILE [--json]
+
+It shows every list with its elements, digests, key and signature, each with its
+offset in the file, and whether the list can permit an image at all. A file of
+fewer than 36 or more than 65536 bytes is refused with 26, one that is not of
+the grammar with 27, and then the field that is wrong is shown. Exit status 0
+or 1.
+
+Note that tboot's tools write custom elements with type 0x13, not 3. A list with
+such an element does not permit.
+
+Examples:
+  bleiwurzel policy list.data
+  bleiwurzel policy list.data --json
+  Is this image's digest in the policy?
+    bleiwurzel policy list.data | grep dd311d9b
+";
+
+pub const CAPTURE: &str = "\
+bleiwurzel capture: all that a check needs in one file of at most 65536 bytes,
+to send or to keep.
+
+Usage:
+  bleiwurzel capture make ..      parts and platform to a capture file
+  bleiwurzel capture show FILE    the platform and the parts of a capture file
+
+Both have --help. A capture is checked by: bleiwurzel check --capture FILE
+Images over 64 KiB do not fit; check their parts instead, see
+bleiwurzel check --help
+";
+
+pub const CAPTURE_MAKE: &str = "\
+bleiwurzel capture make: parts and platform to a capture file.
+
+Usage:
+  bleiwurzel capture make --window FILE --heap FILE --sinit FILE
+                          --policy-record FILE --platform FILE --output FILE
+
+Parts and platform are given as for bleiwurzel check; see its --help. Nothing is
+judged here: a capture may be of an image that is refused. A file that is there
+already is not overwritten. 75 bytes and the parts must be at most 65536.
+
+Example:
+  bleiwurzel capture make --window window.bin --heap heap.bin \\
+      --sinit sinit.bin --policy-record record.bin --platform host17.txt \\
+      --output host17.cap
+";
+
+pub const CAPTURE_SHOW: &str = "\
+bleiwurzel capture show: the platform and the parts of a capture file.
+
+Usage:
+  bleiwurzel capture show FILE [--json]
+
+The plain output is itself a platform file. Exit status 1 where the file is no
+capture, with the field that is wrong.
+
+Examples:
+  bleiwurzel capture show host17.cap
+  Take the platform for a check of other parts:
+    bleiwurzel capture show host17.cap > host17.txt
+    bleiwurzel check .. --platform host17.txt
+";
+
+pub const REFUSALS: &str = "\
+bleiwurzel refusals: what every refusal means, its usual causes, what a
+technician checks and what the image's builder changes.
+
+Usage:
+  bleiwurzel refusals [NUMBER] [--json]
+
+Without a number it prints the page docs/REFUSALS.md.
+
+Examples:
+  bleiwurzel refusals 29
+  bleiwurzel refusals | less
+";

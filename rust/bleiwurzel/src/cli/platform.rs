@@ -1,0 +1,169 @@
+//! The platform's nine numbers, from flags, from a text file or from both.
+
+use super::args::Args;
+use super::{files, misuse, Misuse};
+use bleiwurzel::Platform;
+
+/// The keys in the order of a capture, and the bits of each number.
+pub const KEYS: [(&str, &str, u32); 9] = [
+    ("window_base", "--window-base", 64),
+    ("heap_base", "--heap-base", 64),
+    ("sinit_base", "--sinit-base", 64),
+    ("dpr_base", "--dpr-base", 64),
+    ("dpr_size", "--dpr-size", 64),
+    ("acram_capacity", "--acram-capacity", 64),
+    ("vendor", "--vendor", 16),
+    ("device", "--device", 16),
+    ("revision", "--revision", 16),
+];
+
+const MOST_TEXT: u64 = 65_536;
+
+/// The numbers in the order of `KEYS`.
+pub fn values(platform: &Platform) -> [u64; 9] {
+    [
+        platform.window_base,
+        platform.heap_base,
+        platform.sinit_base,
+        platform.dpr_base,
+        platform.dpr_size,
+        platform.acram_capacity,
+        u64::from(platform.vendor),
+        u64::from(platform.device),
+        u64::from(platform.revision),
+    ]
+}
+
+fn platform(
+    [window_base, heap_base, sinit_base, dpr_base, dpr_size, acram_capacity, vendor, device, revision]: [u64; 9],
+) -> Platform {
+    Platform {
+        window_base,
+        heap_base,
+        sinit_base,
+        dpr_base,
+        dpr_size,
+        acram_capacity,
+        vendor: vendor as u16,
+        device: device as u16,
+        revision: revision as u16,
+    }
+}
+
+/// The platform as a text file, one `key = value` a line.
+pub fn text(platform: &Platform) -> String {
+    KEYS.iter().zip(values(platform)).map(|((key, _, _), value)| format!("{key} = {value:#x}\n")).collect()
+}
+
+/// A decimal number, or a hexadecimal one with 0x, of so many bits.
+fn number(text: &str, bits: u32) -> Result<u64, String> {
+    let wrong = || format!("'{text}' is no number; write decimal digits, or 0x and hexadecimal digits");
+    let (digits, radix) = match text.strip_prefix("0x").or_else(|| text.strip_prefix("0X")) {
+        Some(digits) => (digits, 16),
+        None => (text, 10),
+    };
+    if digits.is_empty() || !digits.chars().all(|digit| digit.is_digit(radix)) {
+        return Err(wrong());
+    }
+    let value = u64::from_str_radix(digits, radix).ok().filter(|value| bits == 64 || value >> bits == 0);
+    value.ok_or_else(|| format!("'{text}' does not fit into {bits} bits"))
+}
+
+/// Reads the text of a platform file into the places of `KEYS`.
+fn read_text(text: &str, found: &mut [Option<u64>; 9]) -> Result<(), String> {
+    for (index, line) in text.lines().enumerate() {
+        let line = line.split('#').next().unwrap_or("").trim();
+        if line.is_empty() {
+            continue;
+        }
+        let at = |message: String| format!("line {}: {message}", index + 1);
+        let (key, value) = match line.split_once('=') {
+            Some((key, value)) => (key, value),
+            None => {
+                return Err(at(format!("'{line}' is not of the form key = value")));
+            }
+        };
+        let key = key.trim().replace('-', "_");
+        let place = match KEYS.iter().position(|(known, _, _)| *known == key) {
+            Some(place) => place,
+            None => {
+                let known: Vec<&str> = KEYS.iter().map(|(known, _, _)| *known).collect();
+                return Err(at(format!("there is no key '{key}'; the keys are {}", known.join(", "))));
+            }
+        };
+        if found[place].is_some() {
+            return Err(at(format!("'{key}' is given twice; give it once")));
+        }
+        found[place] = Some(number(value.trim(), KEYS[place].2).map_err(at)?);
+    }
+    Ok(())
+}
+
+/// The platform that the flags give; a flag counts more than the file.
+pub fn read(args: &Args, help: &'static str) -> Result<Platform, Misuse> {
+    let mut found = [None; 9];
+    if let Some(path) = args.value("--platform") {
+        let bytes = files::read(path, MOST_TEXT, "the platform", help)?;
+        let name = path.to_string_lossy();
+        if bytes.len() as u64 > MOST_TEXT {
+            return misuse(help, format!("'{name}' is no platform file: it has over {MOST_TEXT} bytes"));
+        }
+        let text = match String::from_utf8(bytes) {
+            Ok(text) => text,
+            Err(_) => {
+                return misuse(help, format!("'{name}' is no platform file: it is no text"));
+            }
+        };
+        read_text(&text, &mut found).or_else(|message| misuse(help, format!("'{name}', {message}")))?;
+    }
+    for (place, (_, flag, bits)) in found.iter_mut().zip(KEYS) {
+        let value = match args.value(flag) {
+            Some(value) => value,
+            None => continue,
+        };
+        *place = Some(number(&value.to_string_lossy(), bits).or_else(|message| misuse(help, format!("{flag}: {message}")))?);
+    }
+    let missing: Vec<&str> = found.iter().zip(KEYS).filter(|(place, _)| place.is_none()).map(|(_, (_, flag, _))| flag).collect();
+    if !missing.is_empty() {
+        let missing = missing.join(", ");
+        return misuse(
+            help,
+            format!("numbers of the platform are missing: {missing}. Give these flags, or a file with --platform"),
+        );
+    }
+    Ok(platform(found.map(Option::unwrap_or_default)))
+}
+
+#[cfg(test)]
+mod tests {
+    use super::*;
+
+    #[test]
+    fn numbers() {
+        assert_eq!(number("4096", 64), Ok(4096));
+        assert_eq!(number("0x1000", 64), Ok(4096));
+        assert_eq!(number("0XfF", 16), Ok(255));
+        assert_eq!(number("65535", 16), Ok(65535));
+        assert_eq!(number("0xffffffffffffffff", 64), Ok(u64::MAX));
+        for wrong in ["", "0x", "-1", "+1", "1k", "0x1 0", "1000h", "18446744073709551616"] {
+            assert!(number(wrong, 64).is_err(), "{wrong}");
+        }
+        assert!(number("65536", 16).is_err());
+    }
+
+    #[test]
+    fn a_platform_file_gives_back_what_was_written() {
+        let platform = platform([1 << 20, 2, u64::MAX, 4, 5, 6, 0x8086, 0xb002, 0xffff]);
+        let mut found = [None; 9];
+        read_text(&text(&platform), &mut found).unwrap();
+        assert_eq!(found.map(Option::unwrap), values(&platform));
+    }
+
+    #[test]
+    fn wrong_platform_files() {
+        for wrong in ["window_base", "base = 1", "vendor = 65536", "vendor = 1\nvendor = 1", "vendor = "] {
+            assert!(read_text(wrong, &mut [None; 9]).is_err(), "{wrong}");
+        }
+        assert!(read_text("# nothing\n\n  vendor=1 # here\nheap-base = 0x10\n", &mut [None; 9]).is_ok());
+    }
+}

@@ -1,0 +1,194 @@
+//! `bleiwurzel policy`: the reading of a policy file, in the manner of tboot's `lcp2_crtpol --show`.
+
+use super::json::{hex, Json};
+use super::report::digits;
+use super::{args, files, help, report, Misuse, Said, YES};
+use bleiwurzel::policy::{self, Element, Launch, List};
+use bleiwurzel::{finding, RECORD_LENGTH};
+use std::ffi::OsString;
+
+const HELP: &str = "bleiwurzel policy";
+
+pub fn run(words: Vec<OsString>) -> Result<Said, Misuse> {
+    let args = args::parse(words, HELP, &[], &["--json"])?;
+    if args.has("--help") {
+        return Ok(Said { text: help::POLICY.to_string(), status: YES });
+    }
+    let path = args.one_word("the policy file")?;
+    let file = files::read(path, policy::MOST as u64, "the policy file", HELP)?;
+    let json = args.has("--json");
+    Ok(match policy::read(&file) {
+        Ok(_) => Said { text: shown(&file, json), status: YES },
+        Err(refusal) => {
+            let mut said = report::refused(refusal, finding::find_in_policy(refusal.number, &file).as_ref(), json);
+            if !json && file.len() == RECORD_LENGTH && file[1] == 3 {
+                said.text.push_str(
+                    "\nThis looks like a policy record (70 bytes, version 3): hand it to bleiwurzel check as --policy-record.\n",
+                );
+            }
+            said
+        }
+    })
+}
+
+fn lists(file: &[u8]) -> impl Iterator<Item = (List, Vec<Element>)> + '_ {
+    (0..).map_while(move |i| {
+        let list = policy::list(file, i)?;
+        Some((list, (0..).map_while(|j| policy::element(file, i, j)).collect()))
+    })
+}
+
+fn shown(file: &[u8], json: bool) -> String {
+    if json {
+        let lists: Vec<Json> = lists(file).map(|(list, elements)| list_json(file, &list, &elements)).collect();
+        return Json::Object(vec![
+            ("answer", Json::from("accepted")),
+            ("number", Json::from(0u32)),
+            ("bytes", Json::from(file.len())),
+            ("lists", Json::List(lists)),
+        ])
+        .line();
+    }
+    let all: Vec<_> = lists(file).collect();
+    let mut text =
+        format!("accepted, {} bytes\nfile_signature: Intel(R) TXT LCP_POLICY_DATA\nnum_lists: {}\n", file.len(), all.len());
+    for (i, (list, elements)) in all.iter().enumerate() {
+        text.push_str(&list_text(file, i, list, elements));
+    }
+    text
+}
+
+/// Why a list cannot permit any image, where that is so.
+fn hindrance(list: &List, elements: &[Element]) -> Option<String> {
+    if list.signed.is_some() {
+        return Some("it is signed, and signed lists do not permit yet".to_string());
+    }
+    let judged = |element: &Element| element.launch.is_some() || element.kind == policy::CUSTOM;
+    if let Some((j, other)) = elements.iter().enumerate().find(|(_, element)| !judged(element)) {
+        let custom = if other.kind == 0x13 { ", as tboot's tools write custom elements," } else { "" };
+        return Some(format!("element {j} has type {:#x}{custom} and only types 0x10 and 3 are judged", other.kind));
+    }
+    let sha256 = |launch: &Launch| launch.hash_alg == 0x000b && launch.digests > 0;
+    if !elements.iter().filter_map(|element| element.launch.as_ref()).any(sha256) {
+        return Some("no element of type 0x10 names a SHA-256 digest".to_string());
+    }
+    None
+}
+
+fn kind(kind: u32) -> &'static str {
+    match kind {
+        0 => "mle",
+        1 => "pconf",
+        2 => "sbios",
+        3 => "custom",
+        0x10 => "mle2",
+        0x11 => "pconf2",
+        0x12 => "sbios2",
+        0x13 => "custom2, tboot's custom",
+        0x14 => "stm2",
+        _ => "unknown",
+    }
+}
+
+fn list_text(file: &[u8], i: usize, list: &List, elements: &[Element]) -> String {
+    let algorithm = if list.signed.is_some() { "TPM_ALG_RSASSA (0x14)" } else { "TPM_ALG_NULL (0x10)" };
+    let size = list.elements.len();
+    let mut text = format!("list {i}: offset {:#x}, {} bytes\n", list.bytes.start, list.bytes.len());
+    text.push_str(&format!("    version: {:#x}\n    sig_alg: {algorithm}\n", list.version));
+    text.push_str(&format!("    policy_elements_size: {size:#x} ({size})\n"));
+    for (j, element) in elements.iter().enumerate() {
+        text.push_str(&element_text(file, j, element));
+    }
+    if let Some(signed) = &list.signed {
+        let key = signed.key.len();
+        text.push_str(&format!("    signature:\n        revocation_counter: {0:#x} ({0})\n", signed.counter));
+        text.push_str(&format!("        pubkey_size: {key:#x} ({key})\n"));
+        for (name, range) in [("pubkey_value", &signed.key), ("sig_block", &signed.signature)] {
+            text.push_str(&format!("        {name}: offset {:#x}\n", range.start));
+            for line in file[range.clone()].chunks(32) {
+                text.push_str(&format!("            {}\n", digits(line)));
+            }
+        }
+    }
+    match hindrance(list, elements) {
+        None => text.push_str("    can permit: yes\n"),
+        Some(why) => text.push_str(&format!("    can permit: no, {why}\n")),
+    }
+    text
+}
+
+fn element_text(file: &[u8], j: usize, element: &Element) -> String {
+    let size = element.bytes.len();
+    let mut text = format!("    policy_element[{j}]: offset {:#x}\n", element.bytes.start);
+    text.push_str(&format!("        size: {size:#x} ({size})\n        type: '{}' ({:#x})\n", kind(element.kind), element.kind));
+    text.push_str(&format!("        policy_elt_control: {:#010x}\n", element.control));
+    let launch = match &element.launch {
+        Some(launch) => launch,
+        None => {
+            let body = &file[element.bytes.start + 12..element.bytes.end];
+            text.push_str(&format!("        data: {} bytes\n", body.len()));
+            body.chunks(32).for_each(|line| text.push_str(&format!("            {}\n", digits(line))));
+            return text;
+        }
+    };
+    let name = policy::algorithm(launch.hash_alg).map_or("unknown", |(_, name)| name);
+    text.push_str(&format!(
+        "        sinit_min_version: {:#x}\n        reserved: {:#x}\n",
+        launch.sinit_min_version, launch.reserved
+    ));
+    text.push_str(&format!(
+        "        hash_alg: TPM_ALG_{name} ({:#x})\n        num_hashes: {}\n",
+        launch.hash_alg, launch.digests
+    ));
+    for (k, digest) in digests(file, element).enumerate() {
+        text.push_str(&format!("        hashes[{k}]: {digest}\n"));
+    }
+    text
+}
+
+fn digests<'a>(file: &'a [u8], element: &'a Element) -> impl Iterator<Item = String> + 'a {
+    (0..).map_while(move |k| policy::digest(element, k)).map(|range| digits(&file[range]))
+}
+
+fn list_json(file: &[u8], list: &List, elements: &[Element]) -> Json {
+    let signed = list.signed.as_ref().map_or(Json::Null, |signed| {
+        Json::Object(vec![
+            ("counter", Json::from(u32::from(signed.counter))),
+            ("key_size", Json::from(signed.key.len())),
+            ("key_offset", Json::from(signed.key.start)),
+            ("key", Json::from(digits(&file[signed.key.clone()]))),
+            ("signature_offset", Json::from(signed.signature.start)),
+            ("signature", Json::from(digits(&file[signed.signature.clone()]))),
+        ])
+    });
+    let hindrance = hindrance(list, elements);
+    Json::Object(vec![
+        ("offset", Json::from(list.bytes.start)),
+        ("size", Json::from(list.bytes.len())),
+        ("version", hex(u64::from(list.version))),
+        ("elements_size", Json::from(list.elements.len())),
+        ("elements", Json::List(elements.iter().map(|element| element_json(file, element)).collect())),
+        ("signed", signed),
+        ("can_permit", Json::Bool(hindrance.is_none())),
+        ("hindrance", hindrance.map_or(Json::Null, Json::from)),
+    ])
+}
+
+fn element_json(file: &[u8], element: &Element) -> Json {
+    let mut members = vec![
+        ("offset", Json::from(element.bytes.start)),
+        ("size", Json::from(element.bytes.len())),
+        ("type", hex(u64::from(element.kind))),
+        ("control", hex(u64::from(element.control))),
+    ];
+    match &element.launch {
+        None => members.push(("data", Json::from(digits(&file[element.bytes.start + 12..element.bytes.end])))),
+        Some(launch) => members.extend([
+            ("sinit_min_version", Json::from(u32::from(launch.sinit_min_version))),
+            ("reserved", Json::from(u32::from(launch.reserved))),
+            ("hash_alg", hex(u64::from(launch.hash_alg))),
+            ("hashes", Json::List(digests(file, element).map(Json::from).collect())),
+        ]),
+    }
+    Json::Object(members)
+}

@@ -1,0 +1,125 @@
+//! An answer for people, or as JSON.
+
+use super::json::{hex, texts, Json};
+use super::wrap::{points, wrapped};
+use super::{Said, NO, YES};
+use bleiwurzel::finding::Finding;
+use bleiwurzel::{Permission, Refusal};
+
+/// Pages that follow one another in memory as well as in linear order: the first byte, and how many.
+fn ranges(pages: &[u64]) -> Vec<(u64, u64)> {
+    let mut ranges: Vec<(u64, u64)> = Vec::new();
+    for page in pages {
+        match ranges.last_mut() {
+            Some((first, count)) if *first + 4096 * *count == *page => *count += 1,
+            _ => ranges.push((*page, 1)),
+        }
+    }
+    ranges
+}
+
+pub fn digits(bytes: &[u8]) -> String {
+    bytes.iter().map(|byte| format!("{byte:02x}")).collect()
+}
+
+fn pages(count: u64) -> String {
+    if count == 1 {
+        "1 page".to_string()
+    } else {
+        format!("{count} pages")
+    }
+}
+
+pub fn permitted(permission: &Permission, list: &[u64], json: bool) -> Said {
+    let ranges = ranges(&list[..permission.pages]);
+    let text = if json { permitted_json(permission, &ranges).line() } else { permitted_text(permission, &ranges) };
+    Said { text, status: YES }
+}
+
+fn permitted_text(permission: &Permission, ranges: &[(u64, u64)]) -> String {
+    let mut text = format!("permitted\n\n  image   {}, in linear order\n", pages(permission.pages as u64));
+    for (first, count) in ranges {
+        text.push_str(&format!("          {first:#018x} to {:#018x}  {}\n", first + 4096 * count - 1, pages(*count)));
+    }
+    match permission.list {
+        Some(list) => text.push_str(&format!("  list    {list}, the lowest that permits, counted from 0\n")),
+        None => text.push_str("  list    none: the policy is ANY\n"),
+    }
+    text.push_str(&format!("  digest  {}\n", digits(&permission.digest)));
+    text
+}
+
+fn permitted_json(permission: &Permission, ranges: &[(u64, u64)]) -> Json {
+    let range = |(first, count): &(u64, u64)| {
+        Json::Object(vec![("first", hex(*first)), ("last", hex(first + 4096 * count - 1)), ("pages", Json::from(*count))])
+    };
+    Json::Object(vec![
+        ("answer", Json::from("permitted")),
+        ("number", Json::from(0u32)),
+        ("pages", Json::from(permission.pages)),
+        ("ranges", Json::List(ranges.iter().map(range).collect())),
+        ("list", permission.list.map_or(Json::Null, |list| Json::from(u32::from(list)))),
+        ("digest", Json::from(digits(&permission.digest))),
+    ])
+}
+
+pub fn refused(refusal: Refusal, finding: Option<&Finding>, json: bool) -> Said {
+    let text = if json { refused_json(refusal, finding).line() } else { refused_text(refusal, finding) };
+    Said { text, status: NO }
+}
+
+fn refused_text(refusal: Refusal, finding: Option<&Finding>) -> String {
+    let number = refusal.number;
+    let about = match refusal.text() {
+        Some(about) => about,
+        None => {
+            return format!("refused {number}\n");
+        }
+    };
+    let mut text = format!("refused {number}, {}\n", about.name);
+    wrapped(&mut text, "", about.meaning);
+    if let Some(finding) = finding {
+        text.push_str("\nWhat was found\n");
+        wrapped(&mut text, "  where     ", &finding.place);
+        wrapped(&mut text, "  expected  ", &finding.expected);
+        wrapped(&mut text, "  found     ", &finding.found);
+        finding.notes.iter().for_each(|note| wrapped(&mut text, "            ", note));
+    }
+    points(&mut text, "What to do at the rack", about.technician);
+    points(&mut text, "What the image's builder changes", about.builder);
+    text.push_str(&format!("\nThe whole rule and the usual causes: bleiwurzel refusals {number}\n"));
+    text
+}
+
+fn refused_json(refusal: Refusal, finding: Option<&Finding>) -> Json {
+    let about = refusal.text();
+    let found = finding.map_or(Json::Null, |finding| {
+        Json::Object(vec![
+            ("where", Json::from(finding.place.as_str())),
+            ("expected", Json::from(finding.expected.as_str())),
+            ("found", Json::from(finding.found.as_str())),
+            ("notes", texts(&finding.notes)),
+        ])
+    });
+    Json::Object(vec![
+        ("answer", Json::from("refused")),
+        ("number", Json::from(refusal.number)),
+        ("name", about.map_or(Json::Null, |about| Json::from(about.name))),
+        ("meaning", Json::from(refusal.meaning())),
+        ("finding", found),
+        ("technician", about.map_or(Json::Null, |about| texts(about.technician))),
+        ("builder", about.map_or(Json::Null, |about| texts(about.builder))),
+    ])
+}
+
+#[cfg(test)]
+mod tests {
+    use super::ranges;
+
+    #[test]
+    fn neighbours_make_one_range() {
+        assert_eq!(ranges(&[]), []);
+        assert_eq!(ranges(&[0x1000]), [(0x1000, 1)]);
+        assert_eq!(ranges(&[0x1000, 0x2000, 0x4000, 0x5000, 0x6000]), [(0x1000, 2), (0x4000, 3)]);
+    }
+}

@@ -1,0 +1,115 @@
+//! The functions of the static library, with slices for pointers and lengths. All that is unsafe stands here.
+
+use crate::{Answer, Parts, Platform};
+
+extern "C" {
+    fn bleiwurzel_check(
+        window: *const u8,
+        window_length: usize,
+        heap: *const u8,
+        heap_length: usize,
+        sinit: *const u8,
+        sinit_length: usize,
+        policy: *const u8,
+        policy_length: usize,
+        window_base: u64,
+        heap_base: u64,
+        sinit_base: u64,
+        dpr_base: u64,
+        dpr_size: u64,
+        acram_capacity: u64,
+        vendor: u16,
+        device: u16,
+        revision: u16,
+        pages: *mut u64,
+        places: usize,
+        counts: *mut [u32; 2],
+        digest: *mut [u8; 32],
+    ) -> u32;
+    fn bleiwurzel_check_capture(
+        capture: *const u8,
+        capture_length: usize,
+        pages: *mut u64,
+        places: usize,
+        counts: *mut [u32; 2],
+        digest: *mut [u8; 32],
+    ) -> u32;
+    fn bleiwurzel_policy(file: *const u8, file_length: usize, lists: *mut [u64; 1]) -> u32;
+    fn bleiwurzel_policy_list(file: *const u8, file_length: usize, i: usize, fields: *mut [u64; 9]) -> u32;
+    fn bleiwurzel_policy_element(file: *const u8, file_length: usize, i: usize, j: usize, fields: *mut [u64; 8]) -> u32;
+    fn bleiwurzel_sha256(message: *const u8, message_length: usize, digest: *mut [u8; 32]);
+}
+
+pub fn check(parts: &Parts, platform: &Platform, pages: &mut [u64]) -> Answer {
+    let mut counts = [0u32; 2];
+    let mut digest = [0u8; 32];
+    // SAFETY: each slice is passed with its own length; four are lent for reading and one for writing, and the borrow keeps the
+    // latter apart from them. The two arrays are this function's own.
+    let number = unsafe {
+        bleiwurzel_check(
+            parts.window.as_ptr(),
+            parts.window.len(),
+            parts.heap.as_ptr(),
+            parts.heap.len(),
+            parts.sinit.as_ptr(),
+            parts.sinit.len(),
+            parts.record.as_ptr(),
+            parts.record.len(),
+            platform.window_base,
+            platform.heap_base,
+            platform.sinit_base,
+            platform.dpr_base,
+            platform.dpr_size,
+            platform.acram_capacity,
+            platform.vendor,
+            platform.device,
+            platform.revision,
+            pages.as_mut_ptr(),
+            pages.len(),
+            &mut counts,
+            &mut digest,
+        )
+    };
+    Answer { number, pages: counts[0], list: counts[1], digest }
+}
+
+pub fn check_capture(capture: &[u8], pages: &mut [u64]) -> Answer {
+    let mut counts = [0u32; 2];
+    let mut digest = [0u8; 32];
+    // SAFETY: as in `check`.
+    let number = unsafe {
+        bleiwurzel_check_capture(capture.as_ptr(), capture.len(), pages.as_mut_ptr(), pages.len(), &mut counts, &mut digest)
+    };
+    Answer { number, pages: counts[0], list: counts[1], digest }
+}
+
+/// The number of a string, and how many lists it has.
+pub fn policy(file: &[u8]) -> (u32, u64) {
+    let mut lists = [0u64; 1];
+    // SAFETY: the slice lends its bytes for reading, and the array is this function's own.
+    let number = unsafe { bleiwurzel_policy(file.as_ptr(), file.len(), &mut lists) };
+    (number, lists[0])
+}
+
+/// The kind of list i, and its fields.
+pub fn policy_list(file: &[u8], i: usize) -> (u32, [u64; 9]) {
+    let mut fields = [0u64; 9];
+    // SAFETY: as in `policy`.
+    let kind = unsafe { bleiwurzel_policy_list(file.as_ptr(), file.len(), i, &mut fields) };
+    (kind, fields)
+}
+
+/// The kind of element j of list i, and its fields.
+pub fn policy_element(file: &[u8], i: usize, j: usize) -> (u32, [u64; 8]) {
+    let mut fields = [0u64; 8];
+    // SAFETY: as in `policy`.
+    let kind = unsafe { bleiwurzel_policy_element(file.as_ptr(), file.len(), i, j, &mut fields) };
+    (kind, fields)
+}
+
+pub fn sha256(message: &[u8]) -> [u8; 32] {
+    let mut digest = [0u8; 32];
+    // SAFETY: as in `policy`.
+    unsafe { bleiwurzel_sha256(message.as_ptr(), message.len(), &mut digest) };
+    digest
+}

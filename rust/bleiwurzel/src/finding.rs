@@ -1,0 +1,164 @@
+//! What was found, and where: the rules once more, in plain Rust, over the same inputs as the proved check.
+//!
+//! A finding is said beside the proved answer and never changes it. [`find`] gives the place of the rule with the proved number, and is
+//! silent where this module does not come to that very number.
+
+mod grammar;
+mod heap;
+mod image;
+mod lists;
+mod module;
+mod walk;
+
+use crate::{capture, Parts, Platform, MOST_HEAP, MOST_PAGES, MOST_WINDOW};
+
+/// The place that a refusal speaks of.
+#[derive(Clone, Debug, PartialEq, Eq)]
+pub struct Finding {
+    pub number: u32,
+    /// The field, entry or address, with its offset.
+    pub place: String,
+    pub expected: String,
+    pub found: String,
+    /// More of the same, a line each: the entries of a list, or the reason of each policy list.
+    pub notes: Vec<String>,
+}
+
+type Step<T> = Result<T, Finding>;
+
+/// The place of the rule with this number, where there is one.
+pub fn find(number: u32, parts: &Parts, platform: &Platform, places: usize) -> Option<Finding> {
+    first(parts, platform, places).filter(|finding| finding.number == number)
+}
+
+/// The same for a capture.
+pub fn find_in_capture(number: u32, bytes: &[u8], places: usize) -> Option<Finding> {
+    first_in_capture(bytes, places).filter(|finding| finding.number == number)
+}
+
+/// The same for the reader of policy files.
+pub fn find_in_policy(number: u32, file: &[u8]) -> Option<Finding> {
+    grammar::read_alone(file).err().filter(|finding| finding.number == number)
+}
+
+/// The first rule that does not hold, as this module sees it.
+pub fn first(parts: &Parts, platform: &Platform, places: usize) -> Option<Finding> {
+    all(parts, platform, places).err()
+}
+
+/// The same for a capture.
+pub fn first_in_capture(bytes: &[u8], places: usize) -> Option<Finding> {
+    match capture::split(bytes) {
+        Ok((parts, platform)) => first(&parts, &platform, places),
+        Err(fault) => {
+            Some(Finding { number: 30, place: fault.place, expected: fault.expected, found: fault.found, notes: Vec::new() })
+        }
+    }
+}
+
+fn all(parts: &Parts, platform: &Platform, places: usize) -> Step<()> {
+    limits(parts, platform)?;
+    let asked = heap::read(parts.heap)?;
+    let module = module::read(parts.sinit, platform)?;
+    module::knows_version(&module, &asked)?;
+    let count = page_count(&asked, places)?;
+    let memory = walk::Memory::new(parts, platform, &asked);
+    let mapped = walk::walk(parts.window, &memory, asked.tables)?;
+    image::counted(&mapped, count)?;
+    image::header(parts.window, platform.window_base, &asked, &module, &mapped)?;
+    let record = lists::record(parts.record)?;
+    lists::production(&module, &record)?;
+    lists::module_version(&module, &record)?;
+    if record.any {
+        return Ok(());
+    }
+    let file = lists::place(parts.window, platform.window_base, &asked)?;
+    let reading = grammar::read(file.bytes, Some(file.base))?;
+    lists::hash(&reading, file.bytes, &record)?;
+    let digest = image::digest(parts.window, platform.window_base, &mapped);
+    lists::permits(&reading, file.bytes, &module, &digest)
+}
+
+fn fail<T>(number: u32, place: impl Into<String>, expected: impl Into<String>, found: impl Into<String>) -> Step<T> {
+    Err(Finding { number, place: place.into(), expected: expected.into(), found: found.into(), notes: Vec::new() })
+}
+
+/// Fails with this number where the condition does not hold.
+fn need(holds: bool, number: u32, place: impl Into<String>, expected: impl Into<String>, found: impl Into<String>) -> Step<()> {
+    if holds {
+        return Ok(());
+    }
+    fail(number, place, expected, found)
+}
+
+/// The little-endian number of `width` bytes at an offset, where it fits.
+fn number(bytes: &[u8], at: u64, width: usize) -> Option<u64> {
+    let at = usize::try_from(at).ok()?;
+    let field = bytes.get(at..at.checked_add(width)?)?;
+    Some(field.iter().rev().fold(0, |value, byte| value << 8 | u64::from(*byte)))
+}
+
+/// The same for a field that is known to fit.
+fn field(bytes: &[u8], at: u64, width: usize) -> u64 {
+    number(bytes, at, width).unwrap_or(0)
+}
+
+fn bytes_of(bytes: &[u8], at: u64, length: usize) -> &[u8] {
+    usize::try_from(at).ok().and_then(|at| bytes.get(at..at.checked_add(length)?)).unwrap_or(&[])
+}
+
+fn spaced(bytes: &[u8]) -> String {
+    bytes.iter().map(|byte| format!("{byte:02x}")).collect::<Vec<_>>().join(" ")
+}
+
+fn hex(bytes: &[u8]) -> String {
+    bytes.iter().map(|byte| format!("{byte:02x}")).collect()
+}
+
+const TOP: u128 = 1 << 52;
+
+fn limits(parts: &Parts, platform: &Platform) -> Step<()> {
+    let base = platform.window_base;
+    need(base % 4096 == 0, 1, "window base of the platform", "a multiple of 4096 (0x1000)", format!("{base:#x}"))?;
+    most("window", parts.window.len(), MOST_WINDOW)?;
+    most("heap", parts.heap.len(), MOST_HEAP)?;
+    ends("window", base, parts.window.len() as u64, "window base", "its length")?;
+    ends("heap", platform.heap_base, parts.heap.len() as u64, "heap base", "its length")?;
+    ends("DPR", platform.dpr_base, platform.dpr_size, "DPR base", "DPR size")
+}
+
+fn most(name: &str, length: usize, limit: usize) -> Step<()> {
+    let more = if length == limit + 1 { " or more" } else { "" };
+    need(length <= limit, 1, format!("length of the {name}"), format!("at most {limit} bytes"), format!("{length} bytes{more}"))
+}
+
+fn ends(name: &str, base: u64, size: u64, base_name: &str, size_name: &str) -> Step<()> {
+    let end = u128::from(base) + u128::from(size);
+    need(
+        end <= TOP,
+        1,
+        format!("end of the {name}: {base_name} plus {size_name}"),
+        format!("at most 2^52 ({TOP:#x})"),
+        format!("{base:#x} + {size:#x} = {end:#x}"),
+    )
+}
+
+/// Rules 12 and 13: how many pages the image is said to have.
+fn page_count(asked: &heap::OsSinitData, places: usize) -> Step<u64> {
+    let size = asked.mle_size;
+    let place = asked.place("MLE Size", 16);
+    let found = format!("{size} ({size:#x})");
+    need(size != 0, 12, place.as_str(), "at least 4096, one page", found.as_str())?;
+    need(size % 4096 == 0, 12, place.as_str(), "a multiple of 4096 (0x1000)", found.as_str())?;
+    let count = size / 4096;
+    let expected = format!("at most {MOST_PAGES} pages, {} bytes", MOST_PAGES * 4096);
+    need(count <= MOST_PAGES as u64, 12, place, expected, format!("{found}, {count} pages"))?;
+    need(
+        count <= places as u64,
+        13,
+        "the page list of the calling program",
+        format!("at least {count} places, as many as MLE Size has pages"),
+        format!("{places} places"),
+    )?;
+    Ok(count)
+}

@@ -1,0 +1,174 @@
+//! Rules 26 (by length alone) and 27: the grammar of policy files. The place of a fault is the first field, in file order, that does not
+//! fit or breaks its rule.
+
+use super::{bytes_of, fail, need, number, spaced, Step};
+use crate::policy;
+use std::ops::Range;
+
+const MARK: &[u8; 28] = b"Intel(R) TXT LCP_POLICY_DATA";
+
+pub struct List {
+    pub bytes: Range<u64>,
+    pub key: Option<Range<u64>>,
+    pub elements: Vec<Element>,
+}
+
+pub struct Element {
+    pub at: u64,
+    pub kind: u64,
+    /// Of type 0x10 only.
+    pub launch: Option<Launch>,
+}
+
+pub struct Launch {
+    pub sinit_min_version: u64,
+    pub hash_alg: u64,
+    pub digests: Vec<Range<u64>>,
+}
+
+struct Reader<'a> {
+    file: &'a [u8],
+    /// The file's physical address, where it stands in memory.
+    base: Option<u64>,
+}
+
+/// The reading of a string by itself.
+pub fn read_alone(file: &[u8]) -> Step<Vec<List>> {
+    let expected = format!("{} to {} bytes", policy::LEAST, policy::MOST);
+    let more = if file.len() == policy::MOST + 1 { " or more" } else { "" };
+    let fits = (policy::LEAST..=policy::MOST).contains(&file.len());
+    need(fits, 26, "length of the policy file", expected, format!("{} bytes{more}", file.len()))?;
+    read(file, None)
+}
+
+/// The reading of a file of 36 to 65,536 bytes.
+pub fn read(file: &[u8], base: Option<u64>) -> Step<Vec<List>> {
+    let reader = Reader { file, base };
+    reader.fixed(0, MARK, "the mark, `Intel(R) TXT LCP_POLICY_DATA`")?;
+    reader.fixed(28, &[0; 4], "the 4 zeros behind the mark")?;
+    reader.fixed(32, &[0; 3], "the 3 zeros before the list count")?;
+    let count = reader.number(35, 1, "the list count")?;
+    need((1..=8).contains(&count), 27, reader.place("the list count", 35), "1 to 8", count.to_string())?;
+    let mut at = 36;
+    let mut lists = Vec::new();
+    for index in 0..count {
+        let list = reader.list(at, index)?;
+        at = list.bytes.end;
+        lists.push(list);
+    }
+    let left = file.len() as u64 - at;
+    let place = reader.place("the end of the last list", at);
+    need(left == 0, 27, place, "the file's end", format!("bytes left: {left}"))?;
+    Ok(lists)
+}
+
+impl Reader<'_> {
+    fn place(&self, name: &str, at: u64) -> String {
+        match self.base {
+            None => format!("{name} (file offset {at:#x})"),
+            Some(base) => format!("{name} (policy file offset {at:#x}, physical {:#x})", u128::from(base) + u128::from(at)),
+        }
+    }
+
+    fn fixed(&self, at: u64, value: &[u8], name: &str) -> Step<()> {
+        let found = bytes_of(self.file, at, value.len());
+        need(found == value, 27, self.place(name, at), spaced(value), spaced(found))
+    }
+
+    fn number(&self, at: u64, width: usize, name: &str) -> Step<u64> {
+        self.number_before(at, width, self.file.len() as u64, "the file", name)
+    }
+
+    /// A field that ends at or before `end`.
+    fn number_before(&self, at: u64, width: usize, end: u64, whole: &str, name: &str) -> Step<u64> {
+        match number(self.file, at, width) {
+            Some(value) if at + width as u64 <= end => Ok(value),
+            _ => fail(
+                27,
+                self.place(name, at),
+                format!("{width} bytes inside {whole}"),
+                format!("{} bytes left", end.saturating_sub(at)),
+            ),
+        }
+    }
+
+    fn list(&self, at: u64, index: u64) -> Step<List> {
+        let name = |field: &str| format!("{field} of list {index}");
+        let version = self.number(at, 2, &name("the version"))?;
+        let place = self.place(&name("the version"), at);
+        need(version == 0x0200 || version == 0x0201, 27, place, "0x0200 or 0x0201", format!("{version:#06x}"))?;
+        let algorithm = self.number(at + 2, 2, &name("the signature algorithm"))?;
+        let place = self.place(&name("the signature algorithm"), at + 2);
+        let known = algorithm == 0x0010 || algorithm == 0x0014;
+        need(known, 27, place, "0x0010 (none) or 0x0014 (RSASSA)", format!("{algorithm:#06x}"))?;
+        let size = self.number(at + 4, 4, &name("the elements size"))?;
+        let left = self.file.len() as u64 - (at + 8);
+        let place = self.place(&name("the elements size"), at + 4);
+        need(size <= left, 27, place, format!("at most {left}, the bytes left in the file"), size.to_string())?;
+        let end = at + 8 + size;
+        let elements = self.elements(at + 8, end, index)?;
+        let (key, end) = if algorithm == 0x0014 { self.signature(end, index)? } else { (None, end) };
+        Ok(List { bytes: at..end, key, elements })
+    }
+
+    /// The key of a signed list, and the list's end.
+    fn signature(&self, at: u64, index: u64) -> Step<(Option<Range<u64>>, u64)> {
+        let name = |field: &str| format!("{field} of list {index}");
+        self.number(at, 2, &name("the counter"))?;
+        let size = self.number(at + 2, 2, &name("the key size"))?;
+        let place = self.place(&name("the key size"), at + 2);
+        need(size == 256 || size == 384, 27, place, "256 or 384", size.to_string())?;
+        let length = self.file.len() as u64;
+        for (field, begin) in [("the key", at + 4), ("the signature", at + 4 + size)] {
+            let left = length.saturating_sub(begin);
+            let place = self.place(&name(field), begin);
+            need(begin + size <= length, 27, place, format!("{size} bytes inside the file"), format!("{left} bytes left"))?;
+        }
+        Ok((Some(at + 4..at + 4 + size), at + 4 + 2 * size))
+    }
+
+    fn elements(&self, begin: u64, end: u64, list: u64) -> Step<Vec<Element>> {
+        let mut at = begin;
+        let mut elements = Vec::new();
+        while at < end {
+            let name = |field: &str| format!("{field} of element {} of list {list}", elements.len());
+            let left = end - at;
+            let place = self.place(&name("the size"), at);
+            let found = format!("{left} bytes left in the list's elements");
+            need(left >= 12, 27, place.as_str(), "an element of at least 12 bytes, or no bytes", found)?;
+            let size = self.number(at, 4, "")?;
+            need(size >= 12, 27, place.as_str(), "at least 12, since the size counts size, type and control", size.to_string())?;
+            need(size <= left, 27, place, format!("at most {left}, the bytes left in the list's elements"), size.to_string())?;
+            let kind = self.number(at + 4, 4, "")?;
+            let launch = if kind == u64::from(policy::LAUNCH) { Some(self.launch(at, size, &name)?) } else { None };
+            elements.push(Element { at, kind, launch });
+            at += size;
+        }
+        Ok(elements)
+    }
+
+    fn launch(&self, at: u64, size: u64, name: &dyn Fn(&str) -> String) -> Step<Launch> {
+        let end = at + size;
+        let within = |offset: u64, width: usize, field: &str| {
+            self.number_before(at + offset, width, end, &format!("the element of {size} bytes"), &name(field))
+        };
+        let sinit_min_version = within(12, 1, "SINITMinVersion")?;
+        within(13, 1, "the reserved byte")?;
+        let hash_alg = within(14, 2, "HashAlg")?;
+        let length = match policy::algorithm(hash_alg as u16) {
+            Some((length, _)) => length,
+            None => {
+                let expected = "0x0004, 0x000b, 0x000c, 0x000d or 0x0012";
+                return fail(27, self.place(&name("HashAlg"), at + 14), expected, format!("{hash_alg:#06x}"));
+            }
+        };
+        let count = within(16, 2, "the digest count")?;
+        let length = length as u64;
+        let whole = 18 + count * length;
+        let expected = format!("digests of {length} bytes that fill the element of {size} bytes");
+        let found = format!("{count} digests, which make {whole} bytes");
+        need(whole == size, 27, self.place(&name("the digest count"), at + 16), expected, found)?;
+        let digests = (0..count).map(|k| at + 18 + k * length..at + 18 + (k + 1) * length).collect();
+        Ok(Launch { sinit_min_version, hash_alg, digests })
+    }
+}

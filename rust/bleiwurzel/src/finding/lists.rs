@@ -1,0 +1,171 @@
+//! Rules 23 to 26, 28 and 29: the policy record, the policy file's place and hash, and which list permits.
+
+use super::grammar::{Element, Launch, List};
+use super::heap::OsSinitData;
+use super::module::Module;
+use super::{bytes_of, field, hex, need, Finding, Step};
+use crate::{policy, sha256, RECORD_LENGTH};
+
+pub struct Record {
+    pub any: bool,
+    control: u64,
+    sinit_min_version: u64,
+    hash: Vec<u8>,
+}
+
+pub fn record(record: &[u8]) -> Step<Record> {
+    let length = record.len();
+    let more = if length == RECORD_LENGTH + 1 { " or more" } else { "" };
+    let expected = format!("exactly {RECORD_LENGTH} bytes");
+    need(length == RECORD_LENGTH, 23, "length of the policy record", expected, format!("{length} bytes{more}"))?;
+    let version = field(record, 0, 2);
+    need(version >> 8 == 3, 23, "version, record offset 0", "high byte 3, as 0x0302", format!("{version:#06x}"))?;
+    let algorithm = field(record, 2, 2);
+    need(algorithm == 0x000b, 23, "HashAlg, record offset 2", "0x000b (SHA256)", format!("{algorithm:#06x}"))?;
+    let kind = field(record, 4, 1);
+    need(kind <= 1, 23, "type, record offset 4", "0 (LIST) or 1 (ANY)", kind.to_string())?;
+    Ok(Record {
+        any: kind == 1,
+        control: field(record, 22, 4),
+        sinit_min_version: field(record, 5, 1),
+        hash: bytes_of(record, 38, 32).to_vec(),
+    })
+}
+
+pub fn production(module: &Module, record: &Record) -> Step<()> {
+    let names: Vec<&str> = [(0x4000, "bit 14 (pre-production)"), (0x8000, "bit 15 (debug-signed)")]
+        .iter()
+        .filter(|(mask, _)| module.flags & mask != 0)
+        .map(|(_, name)| *name)
+        .collect();
+    need(
+        names.is_empty() || record.control & 2 != 0,
+        24,
+        "flags in the module's header (module offset 0xe)",
+        format!("bits 14 and 15 clear, or bit 1 of control (record offset 22), which is {:#010x}, set", record.control),
+        format!("{:#06x}, with {} set", module.flags, names.join(" and ")),
+    )
+}
+
+pub fn module_version(module: &Module, record: &Record) -> Step<()> {
+    let least = record.sinit_min_version;
+    let expected = format!("at least {least}, which is SINITMinVersion (record offset 5)");
+    need(module.acm_version >= least, 25, module.place("AcmVersion", 36), expected, module.acm_version.to_string())
+}
+
+pub struct File<'a> {
+    pub bytes: &'a [u8],
+    pub base: u64,
+}
+
+/// Rule 26.
+pub fn place<'a>(window: &'a [u8], window_base: u64, asked: &OsSinitData) -> Step<File<'a>> {
+    let file = &asked.file;
+    let size = file.size;
+    let fits = (policy::LEAST as u64..=policy::MOST as u64).contains(&size);
+    let of_size = asked.place("policy file size", 72);
+    need(fits, 26, of_size, format!("{} to {} bytes", policy::LEAST, policy::MOST), format!("{size} (base {:#x})", file.base))?;
+    let end = u128::from(window_base) + window.len() as u128;
+    need(
+        file.base >= window_base && file.end() <= end,
+        26,
+        asked.place("policy file base and size", 64),
+        format!("wholly in the window, from {window_base:#x} up to, not including, {end:#x}"),
+        format!("{:#x} + {size:#x} = {:#x}", file.base, file.end()),
+    )?;
+    Ok(File { bytes: bytes_of(window, file.base - window_base, size as usize), base: file.base })
+}
+
+fn part(file: &[u8], range: &std::ops::Range<u64>) -> Vec<u8> {
+    bytes_of(file, range.start, (range.end - range.start) as usize).to_vec()
+}
+
+/// Rule 28.
+pub fn hash(lists: &[List], file: &[u8], record: &Record) -> Step<()> {
+    let measures: Vec<[u8; 32]> =
+        lists.iter().map(|list| sha256(&part(file, list.key.as_ref().unwrap_or(&list.bytes)))).collect();
+    let hash = sha256(&measures.concat());
+    if hash[..] == record.hash {
+        return Ok(());
+    }
+    let kind = |list: &List| if list.key.is_some() { "key" } else { "list" };
+    let notes = lists.iter().zip(&measures).enumerate();
+    Err(Finding {
+        number: 28,
+        place: "PolicyHash, record offset 38".to_string(),
+        expected: format!("{}, the hash of the policy file's lists", hex(&hash)),
+        found: hex(&record.hash),
+        notes: notes.map(|(i, (list, measure))| format!("list {i}: SHA-256 of its {} is {}", kind(list), hex(measure))).collect(),
+    })
+}
+
+/// Rule 29.
+pub fn permits(lists: &[List], file: &[u8], module: &Module, digest: &[u8; 32]) -> Step<()> {
+    let mut notes = Vec::new();
+    for (i, list) in lists.iter().enumerate() {
+        match objection(list, file, module, digest) {
+            None => return Ok(()),
+            Some(why) => notes.push(format!("list {i}: {why}")),
+        }
+    }
+    Err(Finding {
+        number: 29,
+        place: "the lists of the policy file, counted from 0".to_string(),
+        expected: format!("an unsigned list of types 0x10 and 3 only, with a SHA-256 element that names {}", hex(digest)),
+        found: format!("{} in the file, and none like that", lists.len()),
+        notes,
+    })
+}
+
+/// Why a list does not permit, where it does not.
+fn objection(list: &List, file: &[u8], module: &Module, digest: &[u8; 32]) -> Option<String> {
+    let judged = |element: &Element| element.kind == 3 || element.launch.is_some();
+    let named: Vec<(usize, &Element)> =
+        list.elements.iter().enumerate().filter(|(_, element)| names(element, file, digest)).collect();
+    let low_enough = |element: &Element| {
+        element
+            .launch
+            .as_ref()
+            .map_or(false, |launch| launch.hash_alg == 0x000b && launch.sinit_min_version <= module.acm_version)
+    };
+    let also = if named.is_empty() { " (and it does not name the digest)" } else { "" };
+    if list.key.is_some() {
+        return Some(format!("signed; signed lists do not permit yet{also}"));
+    }
+    if let Some((j, other)) = list.elements.iter().enumerate().find(|(_, element)| !judged(element)) {
+        let custom = if other.kind == 0x13 { ", which tboot's tools write for custom" } else { "" };
+        let at = other.at;
+        return Some(format!("element {j} (file offset {at:#x}) has type {:#x}{custom}, not 0x10 or 3{also}", other.kind));
+    }
+    if named.iter().any(|(_, element)| low_enough(element)) {
+        return None;
+    }
+    let (j, element) = match named.first() {
+        Some((j, element)) => (j, element),
+        None => {
+            return Some(unnamed(list));
+        }
+    };
+    let least = element.launch.as_ref().map_or(0, |launch| launch.sinit_min_version);
+    let version = module.acm_version;
+    Some(format!(
+        "element {j} (file offset {:#x}) names the digest, but its SINITMinVersion {least} is above AcmVersion {version}",
+        element.at
+    ))
+}
+
+/// What a list names instead of the digest.
+fn unnamed(list: &List) -> String {
+    let launches: Vec<&Launch> = list.elements.iter().filter_map(|element| element.launch.as_ref()).collect();
+    let others = launches.iter().filter(|launch| launch.hash_alg == 0x000b).map(|launch| launch.digests.len()).sum::<usize>();
+    let by_others = launches.iter().filter(|launch| launch.hash_alg != 0x000b).map(|launch| launch.digests.len()).sum::<usize>();
+    format!("does not name the digest; it names {others} other by SHA-256 and {by_others} by other algorithms")
+}
+
+/// Whether this is a launch element with HashAlg 0x000B that names the digest.
+fn names(element: &Element, file: &[u8], digest: &[u8; 32]) -> bool {
+    element
+        .launch
+        .as_ref()
+        .map_or(false, |launch| launch.hash_alg == 0x000b && launch.digests.iter().any(|range| part(file, range) == digest))
+}

@@ -1,0 +1,225 @@
+//! Rules 14 to 20: the walk through the page tables, level by level.
+
+use super::heap::{OsSinitData, Range};
+use super::{field, need, Step};
+use crate::{Parts, Platform};
+
+const PAGE: u64 = 4096;
+const ADDRESS: u64 = 0x000f_ffff_ffff_f000;
+const MOST_TABLES: usize = 16;
+
+/// Ranges of memory that the walk asks about.
+pub struct Memory {
+    window: Range,
+    forbidden: [(&'static str, Range); 3],
+    regions: [(&'static str, Range); 3],
+    /// Where the table base was read.
+    base_place: String,
+}
+
+impl Memory {
+    pub fn new(parts: &Parts, platform: &Platform, asked: &OsSinitData) -> Self {
+        let range = |base: u64, size: usize| Range { base, size: size as u64 };
+        Memory {
+            window: range(platform.window_base, parts.window.len()),
+            forbidden: [
+                ("the hole 0xa0000 to 0xfffff", Range { base: 0xa0000, size: 0x60000 }),
+                ("the heap", range(platform.heap_base, parts.heap.len())),
+                ("the SINIT module", range(platform.sinit_base, parts.sinit.len())),
+            ],
+            regions: [
+                ("DPR", Range { base: platform.dpr_base, size: platform.dpr_size }),
+                ("PMR low", asked.low),
+                ("PMR high", asked.high),
+            ],
+            base_place: asked.place("page table base", 8),
+        }
+    }
+}
+
+/// The pages in linear order, the first one's linear number.
+pub struct Mapped {
+    pub first: u64,
+    pub pages: Vec<u64>,
+}
+
+#[derive(Clone, Copy, PartialEq)]
+enum Level {
+    Pointer,
+    Directory,
+    Page,
+}
+
+impl Level {
+    fn name(self) -> &'static str {
+        match self {
+            Level::Pointer => "pointer table",
+            Level::Directory => "directory",
+            Level::Page => "page table",
+        }
+    }
+
+    fn entries(self) -> u64 {
+        if self == Level::Pointer {
+            4
+        } else {
+            512
+        }
+    }
+
+    fn reserved(self) -> (u64, &'static str) {
+        const HIGH: u64 = 0xfff << 52;
+        match self {
+            Level::Pointer => (HIGH | 0x1e6, "bits 1, 2, 5 to 8 and 52 to 63 clear"),
+            Level::Directory => (HIGH | 0x80, "bits 7 and 52 to 63 clear"),
+            Level::Page => (HIGH, "bits 52 to 63 clear"),
+        }
+    }
+}
+
+/// A table by its address and the number of its first entry among all of its level.
+#[derive(Clone, Copy)]
+struct Table {
+    address: u64,
+    first: u64,
+}
+
+struct Walk<'a> {
+    window: &'a [u8],
+    memory: &'a Memory,
+    last: u64,
+    tables: usize,
+}
+
+pub fn walk(window: &[u8], memory: &Memory, base: u64) -> Step<Mapped> {
+    let place = memory.base_place.as_str();
+    need(base % PAGE == 0, 14, place, "a multiple of 4096 (0x1000)", format!("{base:#x}"))?;
+    let mut walk = Walk { window, memory, last: base, tables: 1 };
+    walk.inside(base, || place.to_string())?;
+    walk.clear(base, || place.to_string())?;
+    let directories = walk.level(Level::Pointer, &[Table { address: base, first: 0 }])?;
+    let tables = walk.level(Level::Directory, &directories)?;
+    let pages = walk.level(Level::Page, &tables)?;
+    let first = pages.first().map_or(0, |page| page.first);
+    Ok(Mapped { first, pages: pages.iter().map(|page| page.address).collect() })
+}
+
+impl Walk<'_> {
+    /// What the present entries of these tables name, in order. `first` of a page is its linear number.
+    fn level(&mut self, level: Level, tables: &[Table]) -> Step<Vec<Table>> {
+        let mut named: Vec<Table> = Vec::new();
+        for table in tables {
+            for index in 0..level.entries() {
+                let value = field(self.window, table.address - self.memory.window.base + 8 * index, 8);
+                if value & 1 == 0 {
+                    continue;
+                }
+                let address = value & ADDRESS;
+                let linear = table.first + index;
+                let place = || self.place(level, table, index, linear);
+                bits(level, value, place)?;
+                self.inside(address, place)?;
+                self.above(address, place)?;
+                self.clear(address, place)?;
+                if level == Level::Page {
+                    follows(named.last(), linear, place)?;
+                    self.protected(address, place)?;
+                } else {
+                    let found = format!("{address:#x}, table page {}", self.tables + 1);
+                    need(self.tables < MOST_TABLES, 18, place(), "at most 16 table pages, the base counted", found)?;
+                    self.tables += 1;
+                }
+                self.last = address;
+                let first = if level == Level::Page { linear } else { linear * 512 };
+                named.push(Table { address, first });
+            }
+        }
+        Ok(named)
+    }
+
+    fn place(&self, level: Level, table: &Table, index: u64, linear: u64) -> String {
+        let at = table.address + 8 * index;
+        let mapped = if level == Level::Page { format!(", which maps linear {:#x}", linear * PAGE) } else { String::new() };
+        let offset = at - self.memory.window.base;
+        format!(
+            "entry {index} of the {} at {:#x} (physical {at:#x}, window offset {offset:#x}){mapped}",
+            level.name(),
+            table.address
+        )
+    }
+
+    fn inside(&self, address: u64, place: impl Fn() -> String) -> Step<()> {
+        let window = &self.memory.window;
+        let fits = address >= window.base && u128::from(address) + u128::from(PAGE) <= window.end();
+        if fits {
+            return Ok(());
+        }
+        need(false, 15, place(), format!("4096 bytes inside the window, {}", shown(window)), format!("{address:#x}"))
+    }
+
+    fn above(&self, address: u64, place: impl Fn() -> String) -> Step<()> {
+        if address > self.last {
+            return Ok(());
+        }
+        need(
+            false,
+            16,
+            place(),
+            format!("an address above {:#x}, the one before it in the walk", self.last),
+            format!("{address:#x}"),
+        )
+    }
+
+    fn clear(&self, address: u64, place: impl Fn() -> String) -> Step<()> {
+        for (name, range) in &self.memory.forbidden {
+            let begin = u128::from(address.max(range.base));
+            let end = (u128::from(address) + u128::from(PAGE)).min(range.end());
+            if begin < end {
+                let expected = format!("clear of {name}, {}", shown(range));
+                return need(false, 17, place(), expected, format!("{address:#x} to {:#x}", address + PAGE - 1));
+            }
+        }
+        Ok(())
+    }
+
+    fn protected(&self, address: u64, place: impl Fn() -> String) -> Step<()> {
+        let end = u128::from(address) + u128::from(PAGE);
+        let holds = |range: &Range| address >= range.base && end <= range.end();
+        if self.memory.regions.iter().any(|(_, range)| holds(range)) {
+            return Ok(());
+        }
+        let regions: Vec<String> = self.memory.regions.iter().map(|(name, range)| format!("{name} ({})", shown(range))).collect();
+        let expected = format!("wholly in one of {}", regions.join(", "));
+        need(false, 20, place(), expected, format!("page {address:#x} to {:#x}", address + PAGE - 1))
+    }
+}
+
+fn shown(range: &Range) -> String {
+    if range.size == 0 {
+        return "of size 0".to_string();
+    }
+    format!("{:#x} to {:#x}", range.base, range.end() - 1)
+}
+
+fn bits(level: Level, value: u64, place: impl Fn() -> String) -> Step<()> {
+    let (reserved, expected) = level.reserved();
+    let wrong = value & reserved;
+    if wrong == 0 {
+        return Ok(());
+    }
+    let bits: Vec<String> = (0..64).filter(|bit| wrong >> bit & 1 == 1).map(|bit| bit.to_string()).collect();
+    let word = if bits.len() == 1 { "bit" } else { "bits" };
+    need(false, 14, place(), expected, format!("{value:#018x}, with {word} {} set", bits.join(", ")))
+}
+
+fn follows(before: Option<&Table>, linear: u64, place: impl Fn() -> String) -> Step<()> {
+    let before = match before {
+        Some(before) => before,
+        None => return Ok(()),
+    };
+    if linear == before.first + 1 {
+        return Ok(());
+    }
+    let expected = format!("the next page at linear {:#x}, behind {:#x}", (before.first + 1) * PAGE, before.first * PAGE);
+    need(false, 19, place(), expected, format!("linear {:#x}", linear * PAGE))
+}

@@ -1,0 +1,112 @@
+//! The reader of policy files: the number of a string, and any list or element of it by number. Offsets count from the file's
+//! first byte.
+
+use crate::{ffi, Refusal};
+use std::ops::Range;
+
+/// The least and the greatest number of bytes of a policy file.
+pub const LEAST: usize = 36;
+pub const MOST: usize = 65_536;
+
+/// A list of a policy file.
+#[derive(Clone, Debug, PartialEq, Eq)]
+pub struct List {
+    /// The whole list, key and signature included.
+    pub bytes: Range<usize>,
+    /// 0x0200 or 0x0201.
+    pub version: u16,
+    pub elements: Range<usize>,
+    /// Where the list is signed.
+    pub signed: Option<Signed>,
+}
+
+/// What stands behind the elements of a signed list.
+#[derive(Clone, Debug, PartialEq, Eq)]
+pub struct Signed {
+    pub counter: u16,
+    pub key: Range<usize>,
+    pub signature: Range<usize>,
+}
+
+/// An element of a list.
+#[derive(Clone, Debug, PartialEq, Eq)]
+pub struct Element {
+    /// The whole element, its size, type and control included.
+    pub bytes: Range<usize>,
+    pub kind: u32,
+    pub control: u32,
+    /// Of type 0x10 only.
+    pub launch: Option<Launch>,
+}
+
+/// The body of a launch element, type 0x10.
+#[derive(Clone, Debug, PartialEq, Eq)]
+pub struct Launch {
+    pub sinit_min_version: u8,
+    pub reserved: u8,
+    pub hash_alg: u16,
+    pub digests: u16,
+}
+
+/// The elements that a list may hold besides type 0x10 and still permit.
+pub const CUSTOM: u32 = 3;
+pub const LAUNCH: u32 = 0x10;
+
+/// How many lists a policy file has, or 26 or 27.
+pub fn read(file: &[u8]) -> Result<usize, Refusal> {
+    match ffi::policy(file) {
+        (0, lists) => Ok(lists as usize),
+        (number, _) => Err(Refusal { number }),
+    }
+}
+
+fn span(start: u64, size: u64) -> Range<usize> {
+    start as usize..(start + size) as usize
+}
+
+/// The list number i, counted from 0, where there is one.
+pub fn list(file: &[u8], i: usize) -> Option<List> {
+    let (kind, [start, size, version, elements, elements_size, counter, key_size, key, signature]) = ffi::policy_list(file, i);
+    let signed = match kind {
+        0 => return None,
+        1 => None,
+        _ => Some(Signed { counter: counter as u16, key: span(key, key_size), signature: span(signature, key_size) }),
+    };
+    Some(List { bytes: span(start, size), version: version as u16, elements: span(elements, elements_size), signed })
+}
+
+/// The element number j of the list number i, both counted from 0, where there is one.
+pub fn element(file: &[u8], i: usize, j: usize) -> Option<Element> {
+    let (answer, [start, size, kind, control, sinit_min_version, reserved, hash_alg, digests]) = ffi::policy_element(file, i, j);
+    let launch = match answer {
+        0 => return None,
+        1 => Some(Launch {
+            sinit_min_version: sinit_min_version as u8,
+            reserved: reserved as u8,
+            hash_alg: hash_alg as u16,
+            digests: digests as u16,
+        }),
+        _ => None,
+    };
+    Some(Element { bytes: span(start, size), kind: kind as u32, control: control as u32, launch })
+}
+
+/// The bytes of a digest of this algorithm, and its name; none for an algorithm that is not of the grammar.
+pub fn algorithm(hash_alg: u16) -> Option<(usize, &'static str)> {
+    match hash_alg {
+        0x0004 => Some((20, "SHA1")),
+        0x000b => Some((32, "SHA256")),
+        0x000c => Some((48, "SHA384")),
+        0x000d => Some((64, "SHA512")),
+        0x0012 => Some((32, "SM3_256")),
+        _ => None,
+    }
+}
+
+/// The offset of digest k of a launch element.
+pub fn digest(element: &Element, k: usize) -> Option<Range<usize>> {
+    let launch = element.launch.as_ref()?;
+    let (length, _) = algorithm(launch.hash_alg)?;
+    let start = element.bytes.start + 18 + k * length;
+    (k < usize::from(launch.digests)).then_some(start..start + length)
+}

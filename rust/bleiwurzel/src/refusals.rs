@@ -1,0 +1,573 @@
+//! The texts of the refusals: the one source of what the tool says and of docs/REFUSALS.md.
+
+/// All that is written about one number.
+#[derive(Debug)]
+pub struct Text {
+    pub number: u32,
+    /// A short name, as in the headings; the C header has it in capitals.
+    pub name: &'static str,
+    /// What it means, in one sentence.
+    pub meaning: &'static str,
+    /// The rule with its fields and offsets.
+    pub rule: &'static str,
+    /// What usually is behind it.
+    pub causes: &'static [&'static str],
+    /// What a technician at the rack checks, in order.
+    pub technician: &'static [&'static str],
+    /// What whoever builds the image changes.
+    pub builder: &'static [&'static str],
+}
+
+/// The text of a number from 1 to 30.
+pub fn text(number: u32) -> Option<&'static Text> {
+    TEXTS.iter().find(|text| text.number == number)
+}
+
+/// docs/REFUSALS.md.
+pub fn markdown() -> String {
+    let mut page = String::from(HEAD);
+    for text in &TEXTS {
+        page.push_str(&format!("| [{0}](#{0}-{1}) | {2} |\n", text.number, anchor(text.name), text.meaning));
+    }
+    TEXTS.iter().for_each(|text| section(&mut page, text));
+    page
+}
+
+fn anchor(name: &str) -> String {
+    name.to_lowercase().replace(' ', "-")
+}
+
+fn section(page: &mut String, text: &Text) {
+    page.push_str(&format!("\n## {} {}\n\n{}\n\n", text.number, text.name, text.meaning));
+    page.push_str(&format!("**The rule.** {}\n", text.rule));
+    points(page, "Usual causes", text.causes);
+    points(page, "A technician checks", text.technician);
+    points(page, "The image's builder changes", text.builder);
+}
+
+fn points(page: &mut String, title: &str, points: &[&str]) {
+    page.push_str(&format!("\n**{title}**\n\n"));
+    points.iter().for_each(|point| page.push_str(&format!("- {point}\n")));
+}
+
+const HEAD: &str = "# Refusals
+
+What each number of the check means, what usually is behind it, what a technician checks at the rack, and what whoever builds the
+image changes. This page is printed by `bleiwurzel refusals`; a test compares the two.
+
+Start with the tool: `bleiwurzel check` says on a refusal what was found and where, with the value that was expected. The numbers are
+tried in rising order, except 14 to 20, which come up in the order in which the page tables are walked. So everything with a lower
+number is in order (of 14 to 20, all that the walk meets before the place that was found), and a repaired fault may uncover a later
+one. Rules 26 to 29 are tried under a LIST policy only.
+
+Offsets are in bytes and numbers little-endian. Offsets *in OsSinitData* count from the byte after its 8-byte size field; offsets *in the
+module*, *in the MLE header*, *in the record* and *in the policy file* from their first byte. A window offset is the physical address
+minus the window base. KiB and MiB are powers of two.
+
+Where the platform's numbers come from: TXT.HEAP.BASE and TXT.HEAP.SIZE (offsets 0x300 and 0x308 of the TXT registers), TXT.SINIT.BASE
+(0x270), TXT.DIDVID (0x110: vendor bits 0 to 15, device 16 to 31, revision 32 to 47), TXT.DPR (0x330: the address above its last byte in
+bits 20 to 31, its size in MiB in bits 4 to 11; newer platforms have it in PCI configuration space instead, see their data sheet). The
+ACRAM capacity is what GETSEC[PARAMETERS] reports.
+
+| No. | Meaning |
+|---|---|
+";
+
+pub static TEXTS: [Text; 30] = [
+    Text {
+        number: 1,
+        name: "limits",
+        meaning: "The window base is no multiple of 4096, the window is over 32 MiB, the heap is over 1 MiB, or base plus size of window, \
+            heap or DPR is over 2^52.",
+        rule: "Window base mod 4096 = 0; window at most 33,554,432 bytes; heap at most 1,048,576 bytes; window base + window length, heap \
+            base + heap length and DPR base + DPR size each at most 2^52, added without wrapping, the DPR also at size 0.",
+        causes: &[
+            "A base was typed with a digit missing or too many, or decimal instead of hexadecimal.",
+            "DPR top was given as DPR base, or base and size changed places.",
+            "The window file is a dump of more memory than image, tables and policy file take.",
+            "The heap file is a dump of the whole TXT region and not of the heap alone.",
+        ],
+        technician: &[
+            "Compare the platform numbers that were handed over with the host's registers, digit by digit.",
+            "Compare the sizes of the window file and the heap file with the limits (`ls -l`).",
+            "DPR base is the DPR's top minus its size; with no DPR give 0 for both.",
+        ],
+        builder: &[
+            "Place image, page tables and policy file so that one window of at most 32 MiB holds all of them.",
+            "Dump the window from a page boundary on.",
+        ],
+    },
+    Text {
+        number: 2,
+        name: "heap parts",
+        meaning: "BiosData, OsMleData and OsSinitData do not fit into the heap, one behind the other.",
+        rule: "The heap begins with BiosData; OsMleData follows it, then OsSinitData. Each begins with a 64-bit size that counts itself: at \
+            least 8, and the sum of the three is at most the heap's length.",
+        causes: &[
+            "The heap file is cut off, or begins at another address than TXT.HEAP.BASE.",
+            "The loader did not write OsMleData or OsSinitData, so that a size is 0.",
+            "A size field does not count its own 8 bytes.",
+        ],
+        technician: &[
+            "The file must begin at TXT.HEAP.BASE and have TXT.HEAP.SIZE bytes: take the dump again.",
+            "The first 8 bytes are BiosData's size, written by the firmware. If they are 0, TXT is not set up: look at the firmware's TXT \
+             setting.",
+        ],
+        builder: &[
+            "Write the three parts in turn, each with its whole size, the size field included.",
+            "Zero is no size: an empty OsMleData has size 8.",
+        ],
+    },
+    Text {
+        number: 3,
+        name: "OsSinitData",
+        meaning: "OsSinitData has fewer than 108 bytes, or its version is neither 6 nor 7.",
+        rule: "OsSinitData's size field is at least 108 (8 for itself, 92 of fields, 8 for the end element); its version, 32 bits at offset 0 \
+            in OsSinitData, is 6 or 7.",
+        causes: &[
+            "A boot loader for older or newer platforms writes another version.",
+            "The size counts the fields but not the elements behind them.",
+            "OsMleData's size is wrong, so that OsSinitData is looked for at the wrong place.",
+        ],
+        technician: &[
+            "Look at the version that was found. 4 or 5 is an old boot loader: install the one meant for this host.",
+            "A version that looks like an address or like text means a wrong size of the part before it; take the heap dump again.",
+        ],
+        builder: &["Write version 7 (TPM 2.0) and all fields up to offset 92, then the elements, of which the last is the end element."],
+    },
+    Text {
+        number: 4,
+        name: "heap elements",
+        meaning: "The elements at the end of OsSinitData are malformed: one has a wrong size, or none ends the list.",
+        rule: "From offset 92 in OsSinitData on stand elements of type (32 bits) and size (32 bits, itself counted, at least 8), each inside \
+            the part. Type 0 has size 8 and ends the list; what follows it is ignored. Other types are skipped. There must be an end.",
+        causes: &[
+            "The end element (type 0, size 8) is missing.",
+            "An element's size counts only its data and not its own 8 bytes.",
+            "OsSinitData's size ends in the middle of an element.",
+        ],
+        technician: &["Nothing at the rack repairs this; it comes from the boot loader. Hand what the tool found, and where, to the image's builder."],
+        builder: &[
+            "Close the list with the 8 bytes 00 00 00 00 08 00 00 00 inside OsSinitData's size.",
+            "Count type and size in every element's size. In heap elements the type comes first, in policy elements the size.",
+        ],
+    },
+    Text {
+        number: 5,
+        name: "PMR",
+        meaning: "A PMR in use lies on the wrong side of 4 GiB, or the high one ends above 2^52.",
+        rule: "In OsSinitData: PMR low base at offset 32, low size 40, high base 48, high size 56, 64 bits each. Size 0 is unused and not \
+            judged. A low PMR ends at or below 2^32; a high one begins at or above 2^32 and ends at or below 2^52. It is 5 also where the \
+            DPR protects every page.",
+        causes: &[
+            "The low PMR was made to cover memory up to the top of a host with more than 4 GiB.",
+            "The high PMR is filled in on a host that has no memory above 4 GiB.",
+            "Base and end were written instead of base and size.",
+        ],
+        technician: &[
+            "Compare the memory of the host with the one the image was made for: after a change of DIMMs the PMRs may be stale.",
+            "Look whether the found size is in truth an end address.",
+        ],
+        builder: &["Split the protected memory at 4 GiB; write size 0 for the half that is not there."],
+    },
+    Text {
+        number: 6,
+        name: "module place",
+        meaning: "The SINIT module's base or length is not one from which a processor starts it.",
+        rule: "SINIT base mod 4096 = 0; length mod 64 = 0, at least 704, at most the ACRAM capacity; base + length at most 2^32 - 1.",
+        causes: &[
+            "The module file is cut off, or has bytes appended (a download page, a padding).",
+            "The ACRAM capacity was given in KiB, or that of another processor.",
+            "SINIT base is not TXT.SINIT.BASE.",
+        ],
+        technician: &[
+            "Compare the module file's size and checksum with the vendor's.",
+            "Compare SINIT base with TXT.SINIT.BASE, and the ACRAM capacity with the processor's (GETSEC[PARAMETERS]).",
+        ],
+        builder: &[
+            "Ship the module as the vendor delivers it, without its archive or signature file.",
+            "Load it on a page boundary below 4 GiB.",
+        ],
+    },
+    Text {
+        number: 7,
+        name: "module header",
+        meaning: "The SINIT module's header has a wrong type, header length, version, vendor, size or key size.",
+        rule: "In the module: type at 0 (16 bits) = 2; HeaderLen 4 (32) = 161; version 8 (32) = 0; vendor 16 (32) = 0x8086; size 24 (32) \
+            times 4 is the file's length; KeySize 120 (32) = 64.",
+        causes: &[
+            "The file is no SINIT module: a BIOS ACM, an archive, a text page.",
+            "It is a module of a newer header edition (version 3.0, HeaderLen 224), which this check does not know.",
+            "The file is cut off or padded, so that the size field does not fit it.",
+        ],
+        technician: &[
+            "Look at the vendor field: if it is not 0x8086, this is not the module. Fetch the right file.",
+            "If only the size differs, fetch the module again.",
+            "If the version is 0x00030000, the module may be good for the host, but this check cannot judge it.",
+        ],
+        builder: &["Ship the SINIT module for this platform, unchanged; its length is 4 times the field at offset 24."],
+    },
+    Text {
+        number: 8,
+        name: "module entry",
+        meaning: "The GDT, the entry point or the segment selector in the SINIT module's header points to a wrong place.",
+        rule: "In the module: GDTLimit at 40, GDTBasePtr 44, SegSel 48, EntryPoint 52, ScratchSize 124 (32 bits each). With E = 4·HeaderLen \
+            + 4·ScratchSize: GDTBasePtr ≥ E; GDTBasePtr + GDTLimit < length; GDTLimit < 65,536; E ≤ EntryPoint < length; SegSel ≥ 8 and a \
+            multiple of 8; SegSel + 15 ≤ GDTLimit. Sums never wrap.",
+        causes: &[
+            "The module is damaged behind an intact first line.",
+            "A test module was made by hand, with a GDT too short for its code and data segment.",
+        ],
+        technician: &["The module file is damaged: compare its checksum with the vendor's and fetch it again."],
+        builder: &["Use the vendor's module. In one of your own, a GDT with SegSel 8 has a limit of at least 23."],
+    },
+    Text {
+        number: 9,
+        name: "module table",
+        meaning: "The SINIT module's information table or its chipset list is malformed or not inside the module.",
+        rule: "The information table is the 44 bytes at E = 4·HeaderLen + 4·ScratchSize, inside the module: UUID AA 3A C0 7F A7 46 DB 18 2E AC \
+            69 8F 8D 41 7F 5A; type at +16 (8 bits) = 1; length +18 (16) ≥ 44; chipset list offset +20 (32), from the module's first byte. \
+            The list has a count (32) of at most 64 and that many entries of 16 bytes, all inside the module.",
+        causes: &[
+            "It is a BIOS ACM (type 0) or a revocation module (type 8 or 9), not SINIT.",
+            "The module is damaged, or ScratchSize is.",
+        ],
+        technician: &[
+            "Look at the type that was found: 0 is a BIOS ACM. Fetch the SINIT module.",
+            "Otherwise compare the file's checksum with the vendor's.",
+        ],
+        builder: &["Ship the SINIT ACM; of a family of modules, the one whose information table has type 1."],
+    },
+    Text {
+        number: 10,
+        name: "chipset",
+        meaning: "No entry of the SINIT module's chipset list matches the platform's chipset.",
+        rule: "An entry (flags 32 bits, vendor, device, revision 16 bits each, 6 reserved) matches where vendor and device are equal and, with \
+            flag bit 0 clear, the revisions are equal; with it set, where revision AND the chipset's revision is not 0.",
+        causes: &[
+            "The module is for another platform generation.",
+            "The board was replaced by one with another chipset or stepping.",
+            "Vendor, device or revision were given wrong, for instance device and vendor swapped.",
+        ],
+        technician: &[
+            "Compare vendor, device and revision with TXT.DIDVID of this very host.",
+            "Compare them with the entries that the tool lists. If none is meant for this chipset, the image carries the wrong module.",
+        ],
+        builder: &["Ship the SINIT module for this chipset; where an image serves several platforms, let the loader pick by TXT.DIDVID."],
+    },
+    Text {
+        number: 11,
+        name: "OsSinitData version",
+        meaning: "The version of OsSinitData is above the one that the SINIT module knows.",
+        rule: "OsSinitData's version (offset 0, 32 bits) is at most OsSinitDataVer in the module's information table (E + 24, 32 bits).",
+        causes: &["A new boot loader meets an old SINIT module.", "A TPM 1.2 era module (version 6) is used with a TPM 2.0 boot loader (version 7)."],
+        technician: &["Look whether a newer SINIT module for this chipset is in the store; the boot loader is newer than the module."],
+        builder: &["Ship a module that knows the version, or have the loader write the module's OsSinitDataVer where it can."],
+    },
+    Text {
+        number: 12,
+        name: "MLE Size",
+        meaning: "MLE Size is 0, no multiple of 4096, or over 4096 pages.",
+        rule: "MLE Size, 64 bits at offset 16 in OsSinitData, is a multiple of 4096 from 4096 to 16,777,216.",
+        causes: &[
+            "The loader wrote the image file's length and not its length in whole pages.",
+            "The image is over 16 MiB.",
+            "The loader did not fill in OsSinitData.",
+        ],
+        technician: &["Nothing at the rack repairs this. If MLE Size is 0, the loader did not get far enough: look at its log."],
+        builder: &["Round MLE Size up to whole pages and map them; keep the measured image at or under 4,096 pages."],
+    },
+    Text {
+        number: 13,
+        name: "page list",
+        meaning: "The page list that the caller lends has fewer places than the image has pages.",
+        rule: "N = MLE Size / 4096 is at most the number of places in the page list.",
+        causes: &["The calling program lends a short list. The tool itself lends 4,096 places, so it never answers 13."],
+        technician: &["This is a fault of the program that asked, not of the image. Ask again with `bleiwurzel check`."],
+        builder: &["In the calling program, lend 4,096 places, the most that an image can need."],
+    },
+    Text {
+        number: 14,
+        name: "entry bits",
+        meaning: "A present table entry has a bit set that must be 0, or the page table base is no multiple of 4096.",
+        rule: "The page table base (64 bits at offset 8 in OsSinitData) is a multiple of 4096. In every entry with bit 0 set, bits 52 to 63 are \
+            0; in an entry of the pointer table also bits 1, 2 and 5 to 8; in a directory entry also bit 7.",
+        causes: &[
+            "A directory maps a 2 MiB page (bit 7): the launch knows 4 KiB pages only.",
+            "Entries have the no-execute bit (63).",
+            "The pointer table's entries carry flags such as writable or user (bits 1, 2), which only directories and page tables may have.",
+            "The table base points to something that is no table.",
+        ],
+        technician: &["Nothing at the rack repairs this; the tables are made by the boot loader. Hand entry and value to the image's builder."],
+        builder: &[
+            "Build PAE tables of 4 KiB pages only; in the four pointer entries set the present bit and the address and nothing else.",
+            "Leave out the no-execute bit; put the pointer table on a page of its own.",
+        ],
+    },
+    Text {
+        number: 15,
+        name: "outside window",
+        meaning: "A table or a page does not lie wholly inside the memory window.",
+        rule: "The table base and each address in a present entry (bits 12 to 51) stand for 4,096 bytes, all of them inside the window: from \
+            window base up to, not including, window base + window length.",
+        causes: &[
+            "The window was dumped too short, or from too high an address.",
+            "Window base is wrong, so that every address is off by the same amount.",
+            "The tables point to memory that is not part of the image.",
+        ],
+        technician: &[
+            "Compare the address that was found with the window. If the base itself is outside, the window base or the dump is wrong: dump again.",
+            "Compare the window file's size with what was to be dumped.",
+        ],
+        builder: &["Keep tables and image together in one window of at most 32 MiB, and have it dumped whole."],
+    },
+    Text {
+        number: 16,
+        name: "not ascending",
+        meaning: "An address in the tables is not above the one found before it.",
+        rule: "In the order of the walk (the base, the pointer entries, all directory entries, all page-table entries, each by rising index) \
+            every address exceeds the one before it. Equal is not above. Absent entries take no part.",
+        causes: &[
+            "The loader placed the tables behind the image, or the page tables before a directory.",
+            "Pages were allocated from the top down, or one page is mapped twice.",
+        ],
+        technician: &["Nothing at the rack repairs this; it is the order in which the loader placed tables and pages. Hand both addresses on."],
+        builder: &[
+            "Lay out rising: pointer table, directories, page tables, then the pages in linear order.",
+            "Map no page twice.",
+        ],
+    },
+    Text {
+        number: 17,
+        name: "forbidden range",
+        meaning: "A table or a page touches 0xA0000 to 0xFFFFF, the heap or the SINIT module.",
+        rule: "The 4,096 bytes of every table and page are clear of 0xA0000 to 0xFFFFF (both included), of the heap (heap base, heap length) and \
+            of the module (SINIT base, module length).",
+        causes: &[
+            "The image was loaded over the heap or the SINIT module, which the firmware placed elsewhere on this host.",
+            "Heap base or SINIT base were given wrong.",
+            "The loader put tables into low memory.",
+        ],
+        technician: &[
+            "Compare heap base and SINIT base with TXT.HEAP.BASE and TXT.SINIT.BASE of this host; after a firmware update they may have moved.",
+            "If they are right, the image's place collides with them on this host.",
+        ],
+        builder: &["Have the loader read TXT.HEAP.BASE and TXT.SINIT.BASE and place tables and image clear of both, and above 1 MiB."],
+    },
+    Text {
+        number: 18,
+        name: "table pages",
+        meaning: "The tables take a seventeenth page, the pointer table and the directories counted.",
+        rule: "Pointer table, directories and page tables together are at most 16 pages; the entry that names the seventeenth is refused.",
+        causes: &["The image is spread over many directories or page tables, most of them nearly empty.", "Tables from something else are mapped too."],
+        technician: &["Nothing at the rack repairs this. Hand it to the image's builder."],
+        builder: &[
+            "4,096 pages need 8 page tables, or 9 where they begin in the middle of one, a directory (or two) and the pointer table. Map only \
+             the image, and from one linear address on.",
+        ],
+    },
+    Text {
+        number: 19,
+        name: "linear gap",
+        meaning: "The image's linear pages do not follow one another: there is a gap.",
+        rule: "The linear number of a page is (pointer index · 512 + directory index) · 512 + page index. The first may be any; each later one \
+            is the one before it plus 1.",
+        causes: &[
+            "The loader left out pages, for instance between text and data.",
+            "A page table ends before its entry 511 although the next one has pages, or the next one does not begin at entry 0.",
+        ],
+        technician: &["Nothing at the rack repairs this. Hand entry and linear address to the image's builder."],
+        builder: &["Map the image as one piece of linear memory; fill holes between its sections with pages of zeros, which are then measured."],
+    },
+    Text {
+        number: 20,
+        name: "not protected",
+        meaning: "A page of the image does not lie wholly in DPR, in the low PMR or in the high PMR.",
+        rule: "All 4,096 bytes of the page lie in one of: DPR (base and size of the platform), PMR low (offsets 32 and 40 in OsSinitData), PMR \
+            high (48 and 56). A page that is half in one and half in another is in none.",
+        causes: &[
+            "The loader left the PMR fields 0, and the image is not in the DPR.",
+            "The PMRs were made for a host with another amount of memory.",
+            "DPR base or size were given wrong: the base is the top minus the size.",
+        ],
+        technician: &[
+            "Compare DPR base and size with the host's DPR register; the size field there is in MiB.",
+            "Compare the page that was found with the three regions that the tool shows.",
+        ],
+        builder: &["Have the loader ask for PMRs that cover the whole image, or place the image inside the DPR."],
+    },
+    Text {
+        number: 21,
+        name: "page count",
+        meaning: "The tables map another number of pages than MLE Size says.",
+        rule: "The number of pages that the walk finds is N = MLE Size / 4096 (64 bits at offset 16 in OsSinitData).",
+        causes: &[
+            "MLE Size counts the image without its last, partly filled page, or without what follows the loaded file (bss).",
+            "Page tables map more than the image, for instance the tables themselves.",
+            "No entry is present: the table base points to a page of zeros.",
+        ],
+        technician: &["If no page was found at all, the window dump does not hold the tables: dump again. Else hand both counts to the builder."],
+        builder: &["Let MLE Size and the tables come from the same number, rounded up to whole pages."],
+    },
+    Text {
+        number: 22,
+        name: "MLE header",
+        meaning: "The MLE header is not mapped, crosses the end of its page, or has a field that does not fit the image.",
+        rule: "The header base (64 bits at offset 24 in OsSinitData) is a linear address in a mapped page, at most 4,044 bytes into it. In the \
+            52 bytes there: UUID 5A AC 82 90 6F 47 A7 74 0F 5C 55 A2 CB 51 B6 42; HeaderLen at 16 ≥ 52; version 20 ≥ MinMleHeaderVer of the \
+            module (E + 28); EntryPoint 24 in the mapped linear range; FirstValidPage 28 = the first linear page's address; MleEnd 36 - \
+            MleStart 32 = MLE Size, with MleStart ≤ MleEnd (32 bits each).",
+        causes: &[
+            "The header base is physical instead of linear, or counts from the file instead of the mapping.",
+            "The image was built for another linear base (FirstValidPage, EntryPoint).",
+            "MleEnd is the last byte instead of the one after it, or the image was padded after linking.",
+            "The kernel or hypervisor is too old for this module (version below MinMleHeaderVer).",
+        ],
+        technician: &[
+            "If the UUID differs, the file is no measured image, or it is loaded at another place: compare with the store's original.",
+            "If the version is too low, a newer image or an older module is needed.",
+        ],
+        builder: &[
+            "Set the field that the tool names from the mapping that the loader really makes; keep the whole header in one page.",
+            "Link the image so that MleEnd - MleStart is its whole size in pages.",
+        ],
+    },
+    Text {
+        number: 23,
+        name: "policy record",
+        meaning: "The policy record does not have 70 bytes, major version 3, HashAlg 0x000B and type LIST or ANY.",
+        rule: "The record is exactly 70 bytes; version at 0 (16 bits) has high byte 3, the low byte is free; HashAlg 2 (16) = 0x000B (SHA-256); \
+            type 4 (8) is 0 (LIST) or 1 (ANY).",
+        causes: &[
+            "The record is that of a TPM 1.2 (version 2.x, 54 bytes) or uses SHA-1 or SHA-384.",
+            "The file holds the whole NV index with padding, or a policy data file was given instead of the record.",
+        ],
+        technician: &[
+            "`ls -l`: the record has 70 bytes. A file that begins with `Intel(R) TXT LCP_POLICY_DATA` is the policy file, which belongs into the \
+             window.",
+            "Read the NV index again, 70 bytes from offset 0.",
+        ],
+        builder: &["Make the record with `lcp2_crtpol --create --alg sha256` and a 3.x policy version."],
+    },
+    Text {
+        number: 24,
+        name: "not production",
+        meaning: "The SINIT module is not production worthy (a debug or pre-production module), and the policy record does not allow that.",
+        rule: "Module flags, 16 bits at 14: bit 14 (pre-production) or bit 15 (debug-signed) is set, and control bit 1 (mask 2) of the record, 32 \
+            bits at 22, is clear. It holds under ANY too.",
+        causes: &["A debug or pre-production module from a test lab is in the store."],
+        technician: &["Replace the module by the vendor's production module. Do not loosen the policy to get the host up."],
+        builder: &["Ship production modules. On test hosts only, set control bit 1 (`lcp2_crtpol --ctrl 0x02`) and provision the record anew."],
+    },
+    Text {
+        number: 25,
+        name: "module version",
+        meaning: "The SINIT module's AcmVersion is below the policy record's SINITMinVersion.",
+        rule: "AcmVersion, 8 bits at E + 36 in the module, is at least SINITMinVersion, 8 bits at 5 in the record. It holds under ANY too.",
+        causes: &["The policy was raised after a security update, and the image still carries the old module."],
+        technician: &["Look whether the store has a newer SINIT module for this chipset; the policy asks for the version shown."],
+        builder: &["Ship a module with at least this AcmVersion, or lower SINITMinVersion in the record if it was raised by mistake."],
+    },
+    Text {
+        number: 26,
+        name: "policy place",
+        meaning: "The policy file does not lie wholly in the memory window, or its size is not 36 to 65536 bytes.",
+        rule: "Under LIST: policy file base, 64 bits at offset 64 in OsSinitData, and its size, 64 bits at 72; the size is 36 to 65,536, and all \
+            its bytes lie in the window.",
+        causes: &[
+            "The loader did not load the policy file: base and size are 0.",
+            "The window was dumped too short to hold it.",
+            "The policy is ANY in truth, and the record is stale.",
+        ],
+        technician: &[
+            "If base and size are 0, the boot entry lacks the policy file (the module line for it in the boot loader's configuration).",
+            "If the base lies just past the window, dump a larger window.",
+        ],
+        builder: &["Load the policy file into the window's memory and write its base and exact size into OsSinitData."],
+    },
+    Text {
+        number: 27,
+        name: "policy grammar",
+        meaning: "The policy file is not of the grammar: a mark, a version, a count or a size in it is wrong.",
+        rule: "File: the 28 characters `Intel(R) TXT LCP_POLICY_DATA` and 4 zeros; 3 zeros; list count at 35 (8 bits), 1 to 8; that many lists \
+            from 36 on; nothing after. List: version (16) 0x0200 or 0x0201; signature algorithm (16) 0x0010 or 0x0014; elements size (32); \
+            elements that fill it exactly; if signed, counter (16), key size (16) 256 or 384, key, signature. Element: size (32) ≥ 12, type \
+            (32), control (32), body. Type 0x10 body: SINITMinVersion (8), reserved (8), HashAlg (16) 0x0004, 0x000B, 0x000C, 0x000D or \
+            0x0012, count (16), exactly that many digests.",
+        causes: &[
+            "The size in OsSinitData is rounded up, so that bytes follow the last list.",
+            "The file is a policy list (`.lst`) or a record (`.pol`) instead of the policy data file.",
+            "The file has lists of version 0x0300 or signatures other than RSASSA.",
+            "The file is damaged.",
+        ],
+        technician: &[
+            "Run `bleiwurzel policy FILE` on the policy file from the store. If it is accepted there, the size in OsSinitData or the loading is \
+             wrong; else the file itself.",
+        ],
+        builder: &[
+            "Make the file with `lcp2_crtpollist` and `lcp2_crtpol` (list version 0x200 or 0x201, RSASSA with 2,048 or 3,072 bits).",
+            "Have the loader write the file's exact size, not rounded to pages.",
+        ],
+    },
+    Text {
+        number: 28,
+        name: "policy hash",
+        meaning: "The policy file's lists do not hash to the policy record's PolicyHash.",
+        rule: "A list's measure is SHA-256 of its bytes, or of its key's bytes as they stand where it is signed. SHA-256 of the measures, joined \
+            in file order, is PolicyHash, 32 bytes at 38 in the record.",
+        causes: &[
+            "The policy file was updated and the record in the TPM was not, or the other way round.",
+            "The record of another host or another policy was handed over.",
+            "Lists were put in another order.",
+        ],
+        technician: &[
+            "Take record and policy file from the same release; compare the two hashes that the tool shows with the release notes.",
+            "Read the record from this host's TPM again; if it is the old one, it must be provisioned anew.",
+        ],
+        builder: &["Make record and file in one run of `lcp2_crtpol --create --pol R --data F`, and roll out both."],
+    },
+    Text {
+        number: 29,
+        name: "no list",
+        meaning: "No list of the policy file permits this image.",
+        rule: "A list permits if it is unsigned, holds only elements of types 0x10 and 3, and one 0x10 element with HashAlg 0x000B names the \
+            image's digest and has SINITMinVersion (8 bits at 12 in the element) at most the module's AcmVersion. All of it in one and the same \
+            list and element.",
+        causes: &[
+            "The image was updated and the policy was not: its digest is in no element.",
+            "tboot's tools write `custom` elements with type 0x13, not 3. Type 0x13 is not judged, so a list that holds one does not permit, even \
+             if another element of it names the image.",
+            "The list is signed. Signed lists are read and measured, but do not permit yet.",
+            "The list holds a platform configuration (0x11) or STM (0x14) element, which this check does not judge.",
+            "The digest is named with SHA-1, SHA-384 or another algorithm only.",
+            "The element asks for a newer SINIT module than the image carries.",
+        ],
+        technician: &[
+            "Compare the image's digest that the tool shows with the digests of `bleiwurzel policy FILE`. If it is not among them, image and \
+             policy are of different releases.",
+            "If it is among them, look at the reason that the tool gives for each list: signed, another type (0x13 is tboot's `custom`), another \
+             algorithm, SINITMinVersion.",
+        ],
+        builder: &[
+            "Make an `mle` element with `--alg sha256` for the digest shown, in an unsigned list that holds nothing but `mle` and type 3 elements.",
+            "Put `custom` elements of tboot's tools (type 0x13) into a list of their own, or write them with type 3.",
+            "Then make policy file and record anew, since PolicyHash changes.",
+        ],
+    },
+    Text {
+        number: 30,
+        name: "capture",
+        meaning: "The file is no capture: its mark, version or lengths are wrong, or it has over 65536 bytes.",
+        rule: "A capture is the mark `LPC`, a version (16 bits at 3) of 1, the platform (six 64-bit numbers from 5, three 16-bit numbers from 53), \
+            four lengths (32 bits each from 59), then the four parts; 75 bytes plus the lengths is the file's size, at most 65,536.",
+        causes: &[
+            "Another file was given, or the transfer cut it off or changed line ends.",
+            "The image is too large for a capture.",
+        ],
+        technician: &[
+            "Run `bleiwurzel capture show FILE`. Copy the file again in binary mode and compare checksums.",
+            "For images over 64 KiB hand over the parts instead: `bleiwurzel check --window FILE --heap FILE ..`.",
+        ],
+        builder: &["Write captures with `bleiwurzel capture make`."],
+    },
+];

@@ -1,0 +1,110 @@
+//! All stored captures: the answer of the library, of the library over the parts, and of the finding.
+
+mod common;
+
+use bleiwurzel::{answer, answer_capture, capture, finding, Answer, MOST_PAGES};
+use common::{captures, image, put, top, Shape, UNTOUCHED};
+use std::collections::HashMap;
+
+fn expected() -> HashMap<String, String> {
+    let text = std::fs::read_to_string(top().join("tests/captures_expected.tsv")).expect("the expected outputs");
+    text.lines()
+        .map(|line| line.split_once('\t').expect("a name, a tab, an output"))
+        .map(|(name, output)| (name.to_string(), output.replace("\\n", "\n")))
+        .collect()
+}
+
+/// What the capture program prints for an answer.
+fn printed(answer: &Answer, pages: &[u64]) -> String {
+    if answer.number != 0 {
+        return format!("refused {}\n", answer.number);
+    }
+    let addresses: String = pages[..answer.pages as usize].iter().map(|page| format!("{page:016x}\n")).collect();
+    format!("permitted pages={} list={}\n{addresses}", answer.pages, answer.list)
+}
+
+fn untouched_after(pages: &[u64], count: u32) -> bool {
+    pages[count as usize..].iter().all(|page| *page == UNTOUCHED)
+}
+
+#[test]
+fn every_capture_has_its_output() {
+    let expected = expected();
+    let captures = captures();
+    assert!(captures.len() >= 200, "only {} captures", captures.len());
+    assert_eq!(captures.len(), expected.len(), "as many captures as expected outputs");
+    for (name, bytes) in captures {
+        let mut pages = vec![UNTOUCHED; MOST_PAGES];
+        let given = answer_capture(&bytes, &mut pages);
+        assert_eq!(printed(&given, &pages), expected[&name], "{name}");
+        assert!(untouched_after(&pages, given.pages), "{name}: a place past the pages was written");
+        if given.number != 0 {
+            assert_eq!(given, Answer { number: given.number, pages: 0, list: 255, digest: [0; 32] }, "{name}");
+        }
+    }
+}
+
+#[test]
+fn the_parts_answer_as_the_capture_does() {
+    for (name, bytes) in captures() {
+        let mut pages = vec![UNTOUCHED; MOST_PAGES];
+        let given = answer_capture(&bytes, &mut pages);
+        match capture::split(&bytes) {
+            Err(_) => assert_eq!(given.number, 30, "{name}"),
+            Ok((parts, platform)) => {
+                let mut again = vec![UNTOUCHED; MOST_PAGES];
+                assert_eq!(answer(&parts, &platform, &mut again), given, "{name}");
+                assert_eq!(again, pages, "{name}");
+                assert_eq!(capture::make(&parts, &platform).as_deref(), Ok(&bytes[..]), "{name}");
+            }
+        }
+    }
+}
+
+#[test]
+fn the_finding_comes_to_the_same_number() {
+    for (name, bytes) in captures() {
+        let given = answer_capture(&bytes, &mut vec![0; MOST_PAGES]);
+        let found = finding::first_in_capture(&bytes, MOST_PAGES);
+        assert_eq!(found.map_or(0, |finding| finding.number), given.number, "{name}");
+        assert_eq!(finding::find_in_capture(given.number, &bytes, MOST_PAGES).is_some(), given.number != 0, "{name}");
+    }
+}
+
+#[test]
+fn the_digest_is_that_of_the_listed_pages() {
+    let mut permitted = 0;
+    for (name, bytes) in captures() {
+        let mut pages = vec![0; MOST_PAGES];
+        let given = answer_capture(&bytes, &mut pages);
+        if given.number != 0 {
+            continue;
+        }
+        permitted += 1;
+        let (parts, platform) = capture::split(&bytes).unwrap_or_else(|fault| panic!("{name}: {fault:?}"));
+        let mut message = Vec::new();
+        for page in &pages[..given.pages as usize] {
+            let at = (page - platform.window_base) as usize;
+            message.extend_from_slice(&parts.window[at..at + 4096]);
+        }
+        assert_eq!(given.digest, digest_bench::plain::digest_in_parts(&message, 0), "{name}");
+    }
+    assert!(permitted > 0, "no capture is permitted");
+}
+
+#[test]
+fn captures_of_65_536_bytes_and_one_more() {
+    let with_spare = |spare| image(&Shape { spare, ..Shape::default() });
+    let small = capture::make(&with_spare(0).parts(), &with_spare(0).platform).expect("a small capture").len();
+    let whole = with_spare(65_536 - small);
+    let mut bytes = capture::make(&whole.parts(), &whole.platform).expect("the largest capture");
+    assert_eq!(bytes.len(), 65_536);
+    let number = |bytes: &[u8]| answer_capture(bytes, &mut vec![0; MOST_PAGES]).number;
+    let found = |bytes: &[u8]| finding::first_in_capture(bytes, MOST_PAGES).map_or(0, |finding| finding.number);
+    assert_eq!((number(&bytes), found(&bytes)), (0, 0));
+    let more = with_spare(65_536 - small + 1);
+    assert_eq!(capture::make(&more.parts(), &more.platform), Err(65_537));
+    bytes.push(0);
+    put(&mut bytes, 59, more.window.len() as u64, 4);
+    assert_eq!((number(&bytes), found(&bytes)), (30, 30), "all lengths are right, but it is too long");
+}

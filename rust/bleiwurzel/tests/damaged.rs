@@ -1,0 +1,247 @@
+//! Damaged copies of images and captures, made in place and with a fixed seed. Each ends with one answer, leaves the page list alone on a
+//! refusal, and has the number that the finding comes to.
+
+mod common;
+
+use bleiwurzel::{answer, answer_capture, finding, Answer, Platform, MOST_HEAP, MOST_PAGES, MOST_WINDOW};
+use common::*;
+use digest_bench::plain::digest_in_parts;
+use std::collections::BTreeMap;
+
+/// xorshift64*, with a fixed seed.
+struct Dice(u64);
+
+impl Dice {
+    fn next(&mut self) -> u64 {
+        self.0 ^= self.0 >> 12;
+        self.0 ^= self.0 << 25;
+        self.0 ^= self.0 >> 27;
+        self.0.wrapping_mul(0x2545_f491_4f6c_dd1d)
+    }
+
+    fn below(&mut self, limit: usize) -> usize {
+        (self.next() % limit as u64) as usize
+    }
+}
+
+/// Changes bytes and remembers what was there.
+struct Damage {
+    undo: Vec<(usize, u8)>,
+}
+
+impl Damage {
+    fn new() -> Self {
+        Damage { undo: Vec::new() }
+    }
+
+    fn set(&mut self, bytes: &mut [u8], at: usize, value: u8) {
+        self.undo.push((at, bytes[at]));
+        bytes[at] = value;
+    }
+
+    /// One change at or near a place.
+    fn hit(&mut self, dice: &mut Dice, bytes: &mut [u8], at: usize) {
+        match dice.below(5) {
+            0 => self.set(bytes, at, bytes[at] ^ (1 << dice.below(8))),
+            1 => self.set(bytes, at, bytes[at].wrapping_add(1)),
+            2 => self.set(bytes, at, bytes[at].wrapping_sub(1)),
+            3 => self.set(bytes, at, dice.next() as u8),
+            _ => {
+                let value = [0, 1, 0x7f, 0x80, 0xff][dice.below(5)];
+                let end = (at + 1 + dice.below(8)).min(bytes.len());
+                (at..end).for_each(|at| self.set(bytes, at, value));
+            }
+        }
+    }
+
+    /// Writes an entry into a table that names some page of the window.
+    fn name_a_page(&mut self, dice: &mut Dice, image: &mut Image) {
+        let entries = [16, 512][dice.below(2)];
+        let at = dice.below(image.content) * PAGE + 8 * dice.below(entries);
+        let page = dice.below(image.window.len().min(64 * PAGE) / PAGE);
+        let entry = image.address(page) | 1;
+        (0..8).for_each(|i| self.set(&mut image.window, at + i, entry.to_le_bytes()[i]));
+    }
+
+    fn repair(&mut self, bytes: &mut [u8]) {
+        self.undo.drain(..).rev().for_each(|(at, value)| bytes[at] = value);
+    }
+}
+
+fn judge(given: &Answer, pages: &[u64], found: Option<finding::Finding>, name: &str) {
+    assert!(given.number <= 30, "{name}: {given:?}");
+    assert_eq!(found.as_ref().map_or(0, |finding| finding.number), given.number, "{name}: the finding is {found:?}");
+    assert!(pages[given.pages as usize..].iter().all(|page| *page == UNTOUCHED), "{name}: a place past the pages");
+    assert!(!pages[..given.pages as usize].contains(&UNTOUCHED), "{name}: a page is not listed");
+    if given.number != 0 {
+        assert_eq!((given.pages, given.list, given.digest), (0, 255, [0; 32]), "{name}");
+    }
+}
+
+fn digest_of(window: &[u8], base: u64, pages: &[u64]) -> [u8; 32] {
+    let bytes: Vec<u8> = pages.iter().flat_map(|page| &window[(page - base) as usize..][..PAGE]).copied().collect();
+    digest_in_parts(&bytes, 0)
+}
+
+/// A place in the window: mostly in the used parts of the tables and the first bytes of the image, else anywhere.
+fn place_in_window(dice: &mut Dice, image: &Image) -> usize {
+    let table = dice.below(image.content);
+    match dice.below(8) {
+        0..=3 => table * PAGE + dice.below(64),
+        4 => table * PAGE + dice.below(PAGE),
+        5 => image.content * PAGE + dice.below(56),
+        6 => {
+            let behind = (image.content + image.count) * PAGE;
+            behind + dice.below((image.window.len() - behind).clamp(1, 400))
+        }
+        _ => dice.below(image.window.len()),
+    }
+    .min(image.window.len() - 1)
+}
+
+fn damage_platform(dice: &mut Dice, platform: &mut Platform) {
+    let bit = 1u64 << dice.below(64);
+    let small = bit as u16;
+    let page = BASE + (dice.below(24) * PAGE) as u64;
+    match dice.below(11) {
+        0 => platform.window_base ^= bit,
+        1 => platform.heap_base ^= bit,
+        2 => platform.sinit_base ^= bit,
+        3 => platform.dpr_base ^= bit,
+        4 => platform.dpr_size ^= bit,
+        5 => platform.acram_capacity ^= bit,
+        6 => platform.vendor ^= small,
+        7 => platform.device ^= small,
+        8 => platform.revision ^= small,
+        9 => platform.heap_base = page + dice.next() % 4096,
+        _ => platform.sinit_base = page,
+    }
+}
+
+/// Damages an image so many times, once to three times each, and repairs it. Counts the answers.
+fn damage_image(name: &str, mut image: Image, times: usize, seed: u64, counts: &mut BTreeMap<u32, usize>) {
+    let mut dice = Dice(seed);
+    let mut pages = vec![UNTOUCHED; MOST_PAGES];
+    let platform = image.platform;
+    for turn in 0..times {
+        let mut damages = [Damage::new(), Damage::new(), Damage::new(), Damage::new()];
+        for _ in 0..=dice.below(3) {
+            match dice.below(13) {
+                0..=3 => {
+                    let at = place_in_window(&mut dice, &image);
+                    damages[0].hit(&mut dice, &mut image.window, at);
+                }
+                4..=6 => {
+                    let at = dice.below(124);
+                    damages[1].hit(&mut dice, &mut image.heap, at);
+                }
+                7 | 8 => {
+                    let at = if dice.below(2) == 0 { dice.below(128) } else { 644 + dice.below(124) };
+                    damages[2].hit(&mut dice, &mut image.sinit, at);
+                }
+                9 | 10 => {
+                    let at = dice.below(70);
+                    damages[3].hit(&mut dice, &mut image.record, at);
+                }
+                11 => damage_platform(&mut dice, &mut image.platform),
+                _ => damages[0].name_a_page(&mut dice, &mut image),
+            }
+        }
+        let name = format!("{name}, damage {turn}");
+        let given = answer(&image.parts(), &image.platform, &mut pages);
+        judge(&given, &pages, finding::first(&image.parts(), &image.platform, MOST_PAGES), &name);
+        if given.number == 0 {
+            let listed = &pages[..given.pages as usize];
+            assert_eq!(given.digest, digest_of(&image.window, image.platform.window_base, listed), "{name}");
+            pages[..given.pages as usize].fill(UNTOUCHED);
+        }
+        *counts.entry(given.number).or_default() += 1;
+        damages[0].repair(&mut image.window);
+        damages[1].repair(&mut image.heap);
+        damages[2].repair(&mut image.sinit);
+        damages[3].repair(&mut image.record);
+        image.platform = platform;
+    }
+    let again = answer(&image.parts(), &image.platform, &mut pages);
+    assert_eq!(again.number, 0, "{name}: the repaired image");
+}
+
+fn listed(shape: &Shape) -> Image {
+    let image = image(shape);
+    let digest = digest_in_parts(image.bytes(), 0);
+    let other = list(&[launch(0, &[[1; 32]]), element(3, &[9; 20])]);
+    with_lists(&image, &[other, list(&[launch(2, &[[3; 32], digest])])])
+}
+
+#[test]
+fn images() {
+    let small = image(&Shape::default()).window.len();
+    let plain = Shape::default();
+    let of = |shape: Shape| image(&shape);
+    let mut counts = BTreeMap::new();
+    damage_image("two pages", of(plain.clone()), 6000, 1, &mut counts);
+    damage_image("two pages, LIST", listed(&plain), 6000, 2, &mut counts);
+    damage_image("one page", of(Shape { pages: 1, ..plain.clone() }), 1000, 3, &mut counts);
+    damage_image("header at 4044", of(Shape { pages: 3, header: 4044, ..plain.clone() }), 1000, 4, &mut counts);
+    damage_image("16 tables", of(Shape { empty_tables: 13, ..plain.clone() }), 2000, 5, &mut counts);
+    damage_image("two directories", of(Shape { pages: 40, first: 512 * 512 - 20, ..plain.clone() }), 2000, 6, &mut counts);
+    damage_image("a heap of 1 MiB", of(Shape { heap_spare: MOST_HEAP - 124, ..plain.clone() }), 1000, 7, &mut counts);
+    damage_image("a window of 32 MiB", of(Shape { spare: MOST_WINDOW - small, ..plain.clone() }), 1000, 8, &mut counts);
+    damage_image("4096 pages", of(Shape { pages: 4096, ..plain.clone() }), 60, 9, &mut counts);
+    damage_image("4096 pages, LIST", listed(&Shape { pages: 4096, first: 100, ..plain }), 40, 10, &mut counts);
+    assert_eq!(counts.values().sum::<usize>(), 20_100);
+    let met: Vec<u32> = counts.keys().copied().collect();
+    let expected: Vec<u32> = (0..=29).filter(|number| *number != 13).collect();
+    assert_eq!(met, expected, "every number but 13 is met: {counts:?}");
+}
+
+/// A place in a capture: mostly in its head or where the parts have their fields.
+fn place_in_capture(dice: &mut Dice, capture: &[u8]) -> usize {
+    let length = capture.len();
+    match dice.below(4) {
+        0 => dice.below(75),
+        1 => length - 1 - dice.below(1100.min(length)),
+        2 => 75 + PAGE * dice.below(8) + dice.below(64),
+        _ => dice.below(length),
+    }
+    .min(length - 1)
+}
+
+#[test]
+fn captures() {
+    let mut dice = Dice(11);
+    let mut pages = vec![UNTOUCHED; MOST_PAGES];
+    let mut turns = 0;
+    for (name, mut bytes) in common::captures().into_iter().filter(|(_, bytes)| !bytes.is_empty()) {
+        for turn in 0..25 {
+            let mut damage = Damage::new();
+            for _ in 0..=dice.below(2) {
+                let at = place_in_capture(&mut dice, &bytes);
+                damage.hit(&mut dice, &mut bytes, at);
+            }
+            let name = format!("{name}, damage {turn}");
+            let given = answer_capture(&bytes, &mut pages);
+            judge(&given, &pages, finding::first_in_capture(&bytes, MOST_PAGES), &name);
+            pages[..given.pages as usize].fill(UNTOUCHED);
+            damage.repair(&mut bytes);
+            turns += 1;
+        }
+    }
+    assert!(turns >= 5_000, "{turns} damaged captures");
+}
+
+#[test]
+fn captures_cut_and_extended() {
+    let mut pages = vec![UNTOUCHED; MOST_PAGES];
+    for (name, mut bytes) in common::captures() {
+        bytes.push(0);
+        let given = answer_capture(&bytes, &mut pages);
+        judge(&given, &pages, finding::first_in_capture(&bytes, MOST_PAGES), &format!("{name} and a byte"));
+        for cut in [1, 2, 70, 75, 1000, 5000] {
+            bytes.truncate(bytes.len().saturating_sub(cut));
+            let given = answer_capture(&bytes, &mut pages);
+            judge(&given, &pages, finding::first_in_capture(&bytes, MOST_PAGES), &format!("{name} cut by {cut}"));
+            pages[..given.pages as usize].fill(UNTOUCHED);
+        }
+    }
+}

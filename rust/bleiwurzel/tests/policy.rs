@@ -1,0 +1,152 @@
+//! The reader of policy files through the crate: the readings of all stored files, parts that are not there, and damaged files.
+
+mod common;
+
+use bleiwurzel::policy::{self, Element, List};
+use bleiwurzel::{finding, Refusal};
+use common::top;
+
+fn hex(bytes: &[u8]) -> String {
+    bytes.iter().map(|byte| format!("{byte:02x}")).collect()
+}
+
+fn list_line(i: usize, list: &List) -> String {
+    let algorithm = if list.signed.is_some() { 0x14 } else { 0x10 };
+    let (start, size, elements) = (list.bytes.start, list.bytes.len(), list.elements.len());
+    let head = format!(
+        "list {i} start={start} size={size} version=0x{:04x} algorithm=0x{algorithm:04x} elements={elements}",
+        list.version
+    );
+    match &list.signed {
+        None => format!("{head}\n"),
+        Some(signed) => {
+            let (size, key, signature) = (signed.key.len(), signed.key.start, signed.signature.start);
+            assert_eq!((list.elements.end + 4, signed.key.end, signed.signature.end), (key, signature, list.bytes.end));
+            format!("{head} counter={} keysize={size} key={key} signature={signature}\n", signed.counter)
+        }
+    }
+}
+
+fn element_lines(file: &[u8], i: usize, j: usize, element: &Element) -> String {
+    let (start, size, kind, control) = (element.bytes.start, element.bytes.len(), element.kind, element.control);
+    let name = match (&element.launch, kind) {
+        (Some(_), _) => "launch",
+        (None, policy::CUSTOM) => "custom",
+        (None, _) => "unjudged",
+    };
+    let mut lines = format!("element {i} {j} {name} start={start} size={size} type=0x{kind:08x} control=0x{control:08x}");
+    if let Some(launch) = &element.launch {
+        let (least, reserved, algorithm, count) = (launch.sinit_min_version, launch.reserved, launch.hash_alg, launch.digests);
+        lines.push_str(&format!(" sinitminversion={least} reserved={reserved} hashalg=0x{algorithm:04x} count={count}"));
+    }
+    lines.push('\n');
+    let digests = (0..).map_while(|k| policy::digest(element, k));
+    digests.for_each(|range| lines.push_str(&format!("digest {}\n", hex(&file[range]))));
+    lines
+}
+
+/// The reading as the program `policy_show` prints it.
+fn shown(file: &[u8]) -> String {
+    let count = match policy::read(file) {
+        Ok(count) => count,
+        Err(Refusal { number }) => return format!("refused {number}\n"),
+    };
+    let mut text = format!("accepted lists={count}\n");
+    for i in 0..count {
+        text.push_str(&list_line(i, &policy::list(file, i).expect("a list of the reading")));
+        let elements = (0..).map_while(|j| policy::element(file, i, j));
+        elements.enumerate().for_each(|(j, element)| text.push_str(&element_lines(file, i, j, &element)));
+    }
+    assert_eq!(policy::list(file, count), None);
+    assert_eq!(policy::element(file, count, 0), None);
+    text
+}
+
+fn folder() -> std::path::PathBuf {
+    top().join("crates/policy_show")
+}
+
+/// The stored readings: the name of the file and what is printed for it.
+fn readings() -> Vec<(String, String)> {
+    let text = std::fs::read_to_string(folder().join("stdout")).expect("the stored readings");
+    let text = text.strip_prefix("file ").expect("a first line with a name");
+    text.split("\nfile ")
+        .map(|part| part.split_once('\n').expect("lines after the name"))
+        .map(|(name, lines)| (name.to_string(), format!("{}\n", lines.trim_end_matches('\n'))))
+        .collect()
+}
+
+#[test]
+fn every_stored_file_has_its_reading() {
+    let readings = readings();
+    assert!(readings.len() >= 100, "only {} readings", readings.len());
+    for (name, expected) in readings {
+        let path = if name == "-" { folder().join("stdin") } else { folder().join("data").join(&name) };
+        let file = std::fs::read(path).expect("a stored policy file");
+        assert_eq!(shown(&file), expected, "{name}");
+    }
+}
+
+#[test]
+fn parts_that_are_not_there() {
+    let (file, _) = common::policy_file(&[common::list(&[common::element(3, b"x")]), common::list(&[])]);
+    assert_eq!(policy::read(&file), Ok(2));
+    assert!(policy::element(&file, 0, 0).is_some() && policy::list(&file, 1).is_some());
+    for i in [2, 3, 255, 256, usize::MAX] {
+        assert_eq!(policy::list(&file, i), None, "list {i}");
+        assert_eq!(policy::element(&file, i, 0), None, "list {i}");
+    }
+    for j in [1, 2, usize::MAX] {
+        assert_eq!(policy::element(&file, 0, j), None, "element {j}");
+    }
+    assert_eq!(policy::element(&file, 1, 0), None);
+    assert_eq!(policy::list(&file[..file.len() - 1], 0), None, "a refused string has no list");
+}
+
+#[test]
+fn lengths() {
+    let (mut file, _) = common::policy_file(&[common::list(&[common::element(3, &vec![0; 65_536 - 36 - 8 - 12])])]);
+    assert_eq!((file.len(), policy::read(&file)), (65_536, Ok(1)));
+    file.push(0);
+    assert_eq!(policy::read(&file), Err(Refusal { number: 26 }));
+    assert_eq!(policy::read(&file[..35]), Err(Refusal { number: 26 }));
+    assert_eq!(policy::read(&file[..36]), Err(Refusal { number: 27 }));
+    assert_eq!(policy::read(&[]), Err(Refusal { number: 26 }));
+}
+
+/// Every byte of some files is changed in several ways; reader and finding come to the same number.
+#[test]
+fn damaged_files() {
+    let mut refused = 0;
+    let mut all = 0;
+    for name in ["signed2048-0x200.data", "three-0x201.data", "plain-0x200.data", "eight-0x201.data"] {
+        let mut file = std::fs::read(folder().join("data").join(name)).expect("a stored policy file");
+        for at in 0..file.len() {
+            let kept = file[at];
+            for value in [kept ^ 1, kept.wrapping_add(16), kept.wrapping_sub(1), 0xff] {
+                file[at] = value;
+                let number = policy::read(&file).err().map_or(0, |refusal| refusal.number);
+                let found = finding::find_in_policy(27, &file).map_or(0, |finding| finding.number);
+                assert_eq!(found, number, "{name}, byte {at} is {value:#x}");
+                refused += usize::from(number != 0);
+                all += 1;
+            }
+            file[at] = kept;
+        }
+        for length in 36..file.len() {
+            assert_eq!(policy::read(&file[..length]), Err(Refusal { number: 27 }), "{name} cut to {length}");
+            assert!(finding::find_in_policy(27, &file[..length]).is_some(), "{name} cut to {length}");
+        }
+    }
+    assert!(refused > 500 && refused < all, "{refused} of {all} are refused");
+}
+
+#[test]
+fn list_counts() {
+    for count in 0..=10 {
+        let (file, _) = common::policy_file(&vec![common::list(&[]); count]);
+        let expected = if (1..=8).contains(&count) { Ok(count) } else { Err(Refusal { number: 27 }) };
+        assert_eq!(policy::read(&file), expected, "{count} lists");
+        assert_eq!(finding::find_in_policy(27, &file).is_some(), expected.is_err(), "{count} lists");
+    }
+}

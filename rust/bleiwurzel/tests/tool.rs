@@ -1,0 +1,343 @@
+//! The tool as one calls it: outputs, exit statuses, messages.
+
+mod common;
+#[path = "common/json.rs"]
+mod json;
+
+use bleiwurzel::{answer_capture, finding, MOST_HEAP, MOST_PAGES, MOST_WINDOW};
+use common::*;
+use json::is_json;
+use std::path::{Path, PathBuf};
+use std::process::Command;
+
+const OK: i32 = 0;
+const REFUSED: i32 = 1;
+const MISUSE: i32 = 2;
+
+struct Ran {
+    status: i32,
+    out: String,
+    err: String,
+}
+
+fn run(words: &[&str]) -> Ran {
+    let output = Command::new(env!("CARGO_BIN_EXE_bleiwurzel")).args(words).output().expect("the tool runs");
+    let text = |bytes: &[u8]| String::from_utf8(bytes.to_vec()).expect("text");
+    Ran { status: output.status.code().expect("an exit status"), out: text(&output.stdout), err: text(&output.stderr) }
+}
+
+/// A folder of its own for each test.
+fn folder(name: &str) -> PathBuf {
+    let folder = Path::new(env!("CARGO_TARGET_TMPDIR")).join(name);
+    let _ = std::fs::remove_dir_all(&folder);
+    std::fs::create_dir_all(&folder).expect("a folder for the test");
+    folder
+}
+
+fn stored(name: &str) -> String {
+    top().join("crates/stored_cases/data").join(name).to_string_lossy().into_owned()
+}
+
+/// Writes an image's parts and platform into a folder; gives the words for `check`.
+fn written(folder: &Path, image: &Image) -> Vec<String> {
+    let p = &image.platform;
+    let platform = format!(
+        "# the platform\nwindow_base = {:#x}\nheap_base = {}\nsinit_base = {:#x}\ndpr_base = {:#x}\ndpr_size = {}\nacram-capacity = {:#x}\n\
+         vendor = {:#x}\ndevice = {:#X}\nrevision = {} # the last\n",
+        p.window_base, p.heap_base, p.sinit_base, p.dpr_base, p.dpr_size, p.acram_capacity, p.vendor, p.device, p.revision
+    )
+    .replace("0XB", "0xB");
+    let parts: [(&str, &str, &[u8]); 5] = [
+        ("--window", "window.bin", &image.window),
+        ("--heap", "heap.bin", &image.heap),
+        ("--sinit", "sinit.bin", &image.sinit),
+        ("--policy-record", "record.bin", &image.record),
+        ("--platform", "platform.txt", platform.as_bytes()),
+    ];
+    let mut words = Vec::new();
+    for (flag, name, bytes) in parts {
+        let path = folder.join(name);
+        std::fs::write(&path, bytes).expect("a part is written");
+        words.extend([flag.to_string(), path.to_string_lossy().into_owned()]);
+    }
+    words
+}
+
+fn run_with(command: &[&str], words: &[String], more: &[&str]) -> Ran {
+    let words: Vec<&str> = command.iter().copied().chain(words.iter().map(String::as_str)).chain(more.iter().copied()).collect();
+    run(&words)
+}
+
+#[test]
+fn a_permitted_capture() {
+    let ran = run(&["check", "--capture", &stored("00-any-example.cap")]);
+    let expected = "permitted\n\n  image   2 pages, in linear order\n          0x0000000000104000 to 0x0000000000105fff  2 pages\n  \
+                    list    none: the policy is ANY\n  digest  b3f4315730049bde635935a7c5477b129df592e0a5a86dbd9886a57af0b1b399\n";
+    assert_eq!((ran.status, ran.out.as_str(), ran.err.as_str()), (OK, expected, ""));
+    let ran = run(&["check", "--json", "--capture", &stored("00-any-example.cap")]);
+    let expected = "{\"answer\": \"permitted\", \"number\": 0, \"pages\": 2, \"ranges\": [{\"first\": \"0x104000\", \"last\": \"0x105fff\", \
+                    \"pages\": 2}], \"list\": null, \"digest\": \"b3f4315730049bde635935a7c5477b129df592e0a5a86dbd9886a57af0b1b399\"}\n";
+    assert_eq!((ran.status, ran.out.as_str()), (OK, expected));
+}
+
+#[test]
+fn a_refused_capture() {
+    let ran = run(&["check", "--capture", &stored("20-dpr-second-page-only.cap")]);
+    let expected = "\
+refused 20, not protected
+A page of the image does not lie wholly in DPR, in the low PMR or in the high
+PMR.
+
+What was found
+  where     entry 0 of the page table at 0x103000 (physical 0x103000, window
+            offset 0x3000), which maps linear 0x0
+  expected  wholly in one of DPR (0x105000 to 0x105fff), PMR low (of size 0),
+            PMR high (of size 0)
+  found     page 0x104000 to 0x104fff
+
+What to do at the rack
+  - Compare DPR base and size with the host's DPR register; the size field there
+    is in MiB.
+  - Compare the page that was found with the three regions that the tool shows.
+
+What the image's builder changes
+  - Have the loader ask for PMRs that cover the whole image, or place the image
+    inside the DPR.
+
+The whole rule and the usual causes: bleiwurzel refusals 20
+";
+    assert_eq!((ran.status, ran.out.as_str(), ran.err.as_str()), (REFUSED, expected, ""));
+}
+
+#[test]
+fn every_capture_by_the_tool() {
+    let mut met = [0; 31];
+    for (name, bytes) in captures() {
+        let number = answer_capture(&bytes, &mut vec![0; MOST_PAGES]).number;
+        met[number as usize] += 1;
+        if met[number as usize] > 4 {
+            continue;
+        }
+        let plain = run(&["check", "--capture", &stored(&name)]);
+        let json = run(&["check", &format!("--capture={}", stored(&name)), "--json"]);
+        assert!(is_json(&json.out) && json.out.lines().count() == 1, "{name}: {}", json.out);
+        assert!(json.out.contains(&format!("\"number\": {number},")), "{name}: {}", json.out);
+        assert_eq!((plain.status, json.status), if number == 0 { (OK, OK) } else { (REFUSED, REFUSED) }, "{name}");
+        if number == 0 {
+            assert!(plain.out.starts_with("permitted\n"), "{name}: {}", plain.out);
+            continue;
+        }
+        let found = finding::find_in_capture(number, &bytes, MOST_PAGES).expect("a finding");
+        assert!(plain.out.starts_with(&format!("refused {number}, ")), "{name}: {}", plain.out);
+        for part in ["\n  where     ", "\n  expected  ", "\n  found     ", "\nWhat to do at the rack\n  - "] {
+            assert!(plain.out.contains(part), "{name}: {}", plain.out);
+        }
+        let words = |text: &str| text.split_whitespace().collect::<Vec<_>>().join(" ");
+        for text in [&found.place, &found.expected, &found.found] {
+            assert!(words(&plain.out).contains(&words(text)), "{name}: '{text}' is not in {}", plain.out);
+        }
+        assert!(plain.out.contains(&format!("bleiwurzel refusals {number}\n")), "{name}");
+    }
+    let kinds = met.iter().filter(|count| **count > 0).count();
+    assert!(kinds >= 25, "only {kinds} different answers");
+}
+
+#[test]
+fn parts_as_files() {
+    let folder = folder("parts_as_files");
+    let image = image(&Shape { pages: 700, ..Shape::default() });
+    let words = written(&folder, &image);
+    let ran = run_with(&["check"], &words, &[]);
+    assert_eq!(ran.status, OK, "{}{}", ran.out, ran.err);
+    let last = image.page(699) + 4095;
+    assert!(ran.out.contains(&format!("{:#018x} to {last:#018x}  700 pages\n", image.page(0))), "{}", ran.out);
+    let ran = run_with(&["check"], &words, &["--dpr-size", "0"]);
+    assert_eq!(ran.status, REFUSED);
+    assert!(ran.out.starts_with("refused 20, not protected\n"), "a flag counts more than the file: {}", ran.out);
+    let ran = run_with(&["check"], &words, &["--sinit-base=0x20000001"]);
+    assert!(ran.out.starts_with("refused 6, module place\n"), "{}", ran.out);
+}
+
+#[test]
+fn the_platform_by_flags_alone() {
+    let folder = folder("the_platform_by_flags_alone");
+    let words = written(&folder, &image(&Shape::default()));
+    let flags = "--window-base 1048576 --heap-base 0x10000000 --sinit-base 0x20000000 --dpr-base 0x100000 --dpr-size 0x4000000 \
+                 --acram-capacity 32768 --vendor 0x8086 --device 0xb002 --revision 1";
+    let flags: Vec<&str> = flags.split_whitespace().collect();
+    assert_eq!(run_with(&["check"], &words[..8], &flags).status, OK);
+    let ran = run_with(&["check"], &words[..8], &flags[..16]);
+    assert_eq!(ran.status, MISUSE);
+    assert!(ran.err.contains("missing: --revision."), "{}", ran.err);
+}
+
+/// Makes a file longer without writing it.
+fn lengthen(path: &Path, length: u64) {
+    std::fs::OpenOptions::new().write(true).open(path).and_then(|file| file.set_len(length)).expect("a longer file");
+}
+
+#[test]
+fn files_over_their_limits() {
+    let folder = folder("files_over_their_limits");
+    let words = written(&folder, &image(&Shape::default()));
+    let restore = |name: &str, bytes: &[u8]| std::fs::write(folder.join(name), bytes).expect("a part is written");
+    let image = image(&Shape::default());
+    let cases: [(&str, &[u8], usize, u32); 4] = [
+        ("window.bin", &image.window, MOST_WINDOW, 1),
+        ("heap.bin", &image.heap, MOST_HEAP, 1),
+        ("sinit.bin", &image.sinit, 0x8000, 6),
+        ("record.bin", &image.record, 70, 23),
+    ];
+    for (name, bytes, limit, number) in cases {
+        for length in [limit as u64 + 1, 1 << 36] {
+            lengthen(&folder.join(name), length);
+            let ran = run_with(&["check"], &words, &[]);
+            assert_eq!(ran.status, REFUSED, "{name}: {}{}", ran.out, ran.err);
+            assert!(ran.out.starts_with(&format!("refused {number}, ")), "{name}: {}", ran.out);
+            assert!(ran.out.contains(&format!("{} bytes or more\n", limit + 1)), "{name}: {}", ran.out);
+        }
+        restore(name, bytes);
+    }
+    lengthen(&folder.join("window.bin"), MOST_WINDOW as u64);
+    assert_eq!(run_with(&["check"], &words, &[]).status, OK);
+    let ran = run_with(&["check"], &words[2..], &["--window", "/dev/zero"]);
+    assert!(ran.out.starts_with("refused 1, limits\n"), "a file without end: {}", ran.out);
+}
+
+#[test]
+fn captures_made_and_shown() {
+    let folder = folder("captures_made_and_shown");
+    let words = written(&folder, &image(&Shape::default()));
+    let output = folder.join("made.cap").to_string_lossy().into_owned();
+    let ran = run_with(&["capture", "make"], &words, &["--output", &output]);
+    assert_eq!(ran.status, OK, "{}", ran.err);
+    let parts = run_with(&["check"], &words, &[]);
+    let whole = run(&["check", "--capture", &output]);
+    assert_eq!((whole.status, whole.out), (OK, parts.out));
+    let again = run_with(&["capture", "make"], &words, &["--output", &output]);
+    assert_eq!(again.status, MISUSE);
+    assert!(again.err.contains("is there already"), "{}", again.err);
+    let shown = run(&["capture", "show", &output]);
+    assert_eq!(shown.status, OK);
+    let platform = folder.join("shown.txt");
+    std::fs::write(&platform, &shown.out).expect("the shown platform");
+    let ran = run_with(&["check"], &words[..8], &["--platform", &platform.to_string_lossy()]);
+    assert_eq!(ran.status, OK, "what is shown is a platform file: {}", ran.err);
+    let json = run(&["capture", "show", &output, "--json"]);
+    assert!(is_json(&json.out) && json.out.contains("\"window_base\": \"0x100000\""), "{}", json.out);
+    let ran = run(&["capture", "show", &stored("30-74-bytes.cap")]);
+    assert_eq!(ran.status, REFUSED);
+    assert!(ran.out.starts_with("refused 30, capture\n") && ran.out.contains("  found     74 bytes\n"), "{}", ran.out);
+}
+
+#[test]
+fn too_much_for_a_capture() {
+    let folder = folder("too_much_for_a_capture");
+    let words = written(&folder, &image(&Shape { pages: 100, ..Shape::default() }));
+    let output = folder.join("made.cap").to_string_lossy().into_owned();
+    let ran = run_with(&["capture", "make"], &words, &["--output", &output]);
+    assert_eq!(ran.status, MISUSE);
+    assert!(ran.err.contains("at most 65536 bytes") && ran.err.contains("bleiwurzel check --window"), "{}", ran.err);
+    assert!(!folder.join("made.cap").exists());
+}
+
+#[test]
+fn policy_files() {
+    let data = top().join("crates/policy_show/data");
+    let path = |name: &str| data.join(name).to_string_lossy().into_owned();
+    let ran = run(&["policy", &path("plain-0x201.data")]);
+    assert_eq!(ran.status, OK);
+    let digest = "        hashes[0]: b042d7958aedb1d594d6d112d34f6602f4de7110e993ae7422923d7d171165dc\n";
+    for part in ["accepted, 222 bytes\n", "num_lists: 1\n", "    version: 0x201\n", "        type: 'mle2' (0x10)\n", digest] {
+        assert!(ran.out.contains(part), "{part} is not in {}", ran.out);
+    }
+    let ran = run(&["policy", &path("signed3072-0x200.data")]);
+    assert!(ran.out.contains("pubkey_size: 0x180 (384)\n") && ran.out.contains("can permit: no, it is signed"), "{}", ran.out);
+    let ran = run(&["policy", &path("27-list-sigalg-0015.pol")]);
+    assert_eq!(ran.status, REFUSED);
+    assert!(ran.out.contains("expected  0x0010 (none) or 0x0014 (RSASSA)\n  found     0x0015\n"), "{}", ran.out);
+    for name in ["plain-0x201.data", "signed3072-0x200.data", "27-list-sigalg-0015.pol", "three-0x201.data"] {
+        assert!(is_json(&run(&["policy", &path(name), "--json"]).out), "{name}");
+    }
+    let folder = folder("policy_files");
+    let long = folder.join("long");
+    std::fs::write(&long, vec![0; 65_537]).expect("a long file");
+    let ran = run(&["policy", &long.to_string_lossy()]);
+    assert!(ran.status == REFUSED && ran.out.starts_with("refused 26, policy place\n"), "{}", ran.out);
+    let record = folder.join("record.bin");
+    std::fs::write(&record, image(&Shape::default()).record).expect("a record");
+    let ran = run(&["policy", &record.to_string_lossy()]);
+    assert!(ran.status == REFUSED && ran.out.contains("looks like a policy record"), "{}", ran.out);
+}
+
+#[test]
+fn refusals() {
+    assert_eq!(run(&["refusals"]).out, bleiwurzel::refusals::markdown());
+    let ran = run(&["refusals", "29"]);
+    assert!(ran.status == OK && ran.out.starts_with("29, no list\n") && ran.out.contains("0x13"), "{}", ran.out);
+    assert!(is_json(&run(&["refusals", "--json"]).out) && is_json(&run(&["refusals", "7", "--json"]).out));
+    for wrong in ["0", "31", "x"] {
+        assert_eq!(run(&["refusals", wrong]).status, MISUSE, "{wrong}");
+    }
+}
+
+#[test]
+fn help_on_every_level() {
+    let levels: [&[&str]; 7] =
+        [&[], &["check"], &["policy"], &["capture"], &["capture", "make"], &["capture", "show"], &["refusals"]];
+    for level in levels {
+        let words = [level, &["--help"]].concat();
+        let ran = run(&words);
+        assert_eq!((ran.status, ran.err.as_str()), (OK, ""), "{words:?}");
+        let name = ["bleiwurzel", &level.join(" ")].join(" ");
+        assert!(ran.out.starts_with(name.trim_end()) && ran.out.contains("\nUsage:\n"), "{words:?}: {}", ran.out);
+        let width = ran.out.lines().map(|line| line.chars().count()).max();
+        assert!(width <= Some(80), "{words:?} is {width:?} wide");
+    }
+}
+
+#[test]
+fn misuse_says_what_to_do() {
+    let example = stored("00-any-example.cap");
+    let cases: [(&[&str], &str); 16] = [
+        (&[], "a command is missing"),
+        (&["chekc"], "there is no command 'chekc'"),
+        (&["check"], "numbers of the platform are missing"),
+        (&["check", &example], "stands alone"),
+        (&["check", "--capture"], "a value is missing after --capture"),
+        (&["check", "--capture", "/nowhere/x.cap"], "there is no file '/nowhere/x.cap'"),
+        (&["check", "--capture", "/"], "cannot read '/'"),
+        (&["check", "--capture", &example, "--heap", "h"], "leave out --heap"),
+        (&["check", "--capture", &example, "--capture", &example], "given twice"),
+        (&["check", "--windw", "x"], "has no flag --windw"),
+        (&["check", "--vendor", "0x18086"], "--vendor: '0x18086' does not fit into 16 bits"),
+        (&["check", "--heap-base", "30000h"], "--heap-base: '30000h' is no number"),
+        (&["policy"], "the policy file is missing"),
+        (&["policy", "a", "b"], "there are 2 files"),
+        (&["capture", "mak"], "make or show"),
+        (&["capture", "make"], "--output is missing"),
+    ];
+    for (words, message) in cases {
+        let ran = run(words);
+        assert_eq!((ran.status, ran.out.as_str()), (MISUSE, ""), "{words:?}");
+        assert!(ran.err.starts_with("bleiwurzel: ") && ran.err.contains(message), "{words:?}: {}", ran.err);
+        assert!(ran.err.ends_with(" --help\n"), "{words:?}: {}", ran.err);
+    }
+}
+
+#[test]
+fn a_wrong_platform_file() {
+    let folder = folder("a_wrong_platform_file");
+    let words = written(&folder, &image(&Shape::default()));
+    for (text, message) in [
+        ("window_base = 1\nwindow-base = 1\n", "line 2: 'window_base' is given twice"),
+        ("base = 1\n", "line 1: there is no key 'base'"),
+        ("\nvendor 1\n", "line 2: 'vendor 1' is not of the form key = value"),
+        ("vendor = 0x8086\n", "missing: --window-base, --heap-base"),
+    ] {
+        std::fs::write(folder.join("platform.txt"), text).expect("a platform file");
+        let ran = run_with(&["check"], &words, &[]);
+        assert_eq!(ran.status, MISUSE);
+        assert!(ran.err.contains(message), "{text}: {}", ran.err);
+    }
+}

@@ -1,0 +1,144 @@
+/* Calls every function of include/bleiwurzel.h once or more, on the image of examples/check.c, and says what is not as it should be. */
+#define main example_main
+#include "../examples/check.c"
+#undef main
+
+static int wrong;
+
+#define NEED(condition) \
+    do { \
+        if (!(condition)) { \
+            printf("line %d: not so: %s\n", __LINE__, #condition); \
+            wrong = 1; \
+        } \
+    } while (0)
+
+static const uint64_t UNTOUCHED = 0x123456789abcdef0;
+
+static void digests(void)
+{
+    static const uint8_t abc[32] = { 0xba, 0x78, 0x16, 0xbf, 0x8f, 0x01, 0xcf, 0xea, 0x41, 0x41, 0x40, 0xde, 0x5d, 0xae, 0x22, 0x23,
+                                     0xb0, 0x03, 0x61, 0xa3, 0x96, 0x17, 0x7a, 0x9c, 0xb4, 0x10, 0xff, 0x61, 0xf2, 0x00, 0x15, 0xad };
+    uint8_t digest[32];
+    bleiwurzel_sha256((const uint8_t *)"abc", 3, digest);
+    NEED(memcmp(digest, abc, 32) == 0);
+    memset(digest, 0, 32);
+    bleiwurzel_sha256_in_parts((const uint8_t *)"abc", 3, 2, digest);
+    NEED(memcmp(digest, abc, 32) == 0);
+}
+
+static void pages_by_themselves(void)
+{
+    uint32_t mapped[2] = { 9, 9 };
+    NEED(bleiwurzel_walk(window, sizeof window, BASE, BASE + PAGE, 0x300000, sizeof heap, 0x200000, sizeof sinit, 0x100000, 0x100000, 0, 0,
+                         0, 0, mapped) == 0);
+    NEED(mapped[0] == 0 && mapped[1] == 2);
+    NEED(bleiwurzel_walk(window, sizeof window, BASE, BASE + PAGE, 0x300000, sizeof heap, 0x200000, sizeof sinit, 0, 0, 0, 0, 0, 0, mapped) ==
+         BLEIWURZEL_NOT_PROTECTED);
+    NEED(mapped[0] == 0 && mapped[1] == 0);
+    NEED(bleiwurzel_walk(window, sizeof window, BASE, BASE + PAGE, 0x300000, sizeof heap, 0x200000, sizeof sinit, 0, 0, BASE, 6 * PAGE, 0, 0,
+                         mapped) == 0);
+    uint8_t digest[32], expected[32];
+    bleiwurzel_digest_of_pages(window, sizeof window, BASE, BASE + PAGE, 0, 2, digest);
+    bleiwurzel_sha256(window + 4 * PAGE, 2 * PAGE, expected);
+    NEED(memcmp(digest, expected, 32) == 0);
+    uint64_t list[3] = { UNTOUCHED, UNTOUCHED, UNTOUCHED };
+    bleiwurzel_page_list(window, sizeof window, BASE, BASE + PAGE, 0, 2, list, 1);
+    NEED(list[0] == UNTOUCHED);
+    bleiwurzel_page_list(window, sizeof window, BASE, BASE + PAGE, 0, 2, list, 3);
+    NEED(list[0] == 0x104000 && list[1] == 0x105000 && list[2] == UNTOUCHED);
+}
+
+static void launches(void)
+{
+    uint64_t list[3] = { UNTOUCHED, UNTOUCHED, UNTOUCHED };
+    struct bleiwurzel_answer a =
+        bleiwurzel_launch(window, sizeof window, heap, sizeof heap, sinit, sizeof sinit, record, sizeof record, &platform, list, 1);
+    NEED(a.number == BLEIWURZEL_PAGE_LIST && a.pages == 0 && a.list == BLEIWURZEL_NO_LIST_INDEX && list[0] == UNTOUCHED);
+    a = bleiwurzel_launch(window, sizeof window, heap, sizeof heap, sinit, sizeof sinit, record, sizeof record, &platform, list, 3);
+    NEED(a.number == BLEIWURZEL_PERMITTED && a.pages == 2 && a.list == BLEIWURZEL_NO_LIST_INDEX);
+    NEED(list[0] == 0x104000 && list[1] == 0x105000 && list[2] == UNTOUCHED);
+}
+
+static void captures(void)
+{
+    static uint8_t capture[75 + sizeof window + sizeof heap + sizeof sinit + sizeof record];
+    const uint64_t numbers[6] = { platform.window_base, platform.heap_base, platform.sinit_base,
+                                  platform.dpr_base,    platform.dpr_size,  platform.acram_capacity };
+    put_bytes(capture, "LPC\1\0", 5);
+    for (int i = 0; i < 6; i++)
+        put(capture + 5 + 8 * i, numbers[i], 8);
+    put(capture + 53, platform.vendor, 2);
+    put(capture + 55, platform.device, 2);
+    put(capture + 57, platform.revision, 2);
+    put(capture + 59, sizeof window, 4);
+    put(capture + 63, sizeof heap, 4);
+    put(capture + 67, sizeof sinit, 4);
+    put(capture + 71, sizeof record, 4);
+    uint8_t *at = capture + 75;
+    at = (uint8_t *)memcpy(at, window, sizeof window) + sizeof window;
+    at = (uint8_t *)memcpy(at, heap, sizeof heap) + sizeof heap;
+    at = (uint8_t *)memcpy(at, sinit, sizeof sinit) + sizeof sinit;
+    memcpy(at, record, sizeof record);
+    uint64_t list[2] = { UNTOUCHED, UNTOUCHED };
+    struct bleiwurzel_answer a = bleiwurzel_launch_capture(capture, sizeof capture - 1, list, 2);
+    NEED(a.number == BLEIWURZEL_CAPTURE && list[0] == UNTOUCHED);
+    a = bleiwurzel_launch_capture(capture, sizeof capture, list, 2);
+    NEED(a.number == BLEIWURZEL_PERMITTED && a.pages == 2 && list[0] == 0x104000 && list[1] == 0x105000);
+}
+
+static void policies(void)
+{
+    static uint8_t file[36 + 8 + 50 + 13 + 8 + 4 + 512];
+    put_bytes(file, "Intel(R) TXT LCP_POLICY_DATA", 28);
+    put(file + 35, 2, 1);
+    put(file + 36, 0x00100201, 4); /* list 0: version 0x0201, unsigned */
+    put(file + 40, 63, 4);
+    put(file + 44, 50, 4); /* element 0: a launch element with one digest */
+    put(file + 48, 0x10, 4);
+    put(file + 52, 1, 4);
+    put(file + 56, 7, 1);
+    put(file + 58, 0x000B, 2);
+    put(file + 60, 1, 2);
+    put(file + 94, 13, 4); /* element 1: type 0x13 */
+    put(file + 98, 0x13, 4);
+    put(file + 107, 0x00140200, 4); /* list 1: version 0x0200, signed, no elements */
+    put(file + 115, 5, 2);
+    put(file + 117, 256, 2);
+    uint64_t lists[1], fields[9];
+    NEED(bleiwurzel_policy(file, sizeof file, lists) == 0 && lists[0] == 2);
+    NEED(bleiwurzel_policy_lists(file, sizeof file) == 2);
+    NEED(bleiwurzel_policy(file, 35, lists) == BLEIWURZEL_POLICY_PLACE && lists[0] == 0);
+    NEED(bleiwurzel_policy(file, sizeof file - 1, lists) == BLEIWURZEL_POLICY_GRAMMAR && lists[0] == 0);
+    NEED(bleiwurzel_policy_list(file, sizeof file, 0, fields) == BLEIWURZEL_LIST_UNSIGNED);
+    NEED(fields[BLEIWURZEL_LIST_OFFSET] == 36 && fields[BLEIWURZEL_LIST_SIZE] == 71 && fields[BLEIWURZEL_LIST_VERSION] == 0x0201);
+    NEED(fields[BLEIWURZEL_LIST_ELEMENTS] == 44 && fields[BLEIWURZEL_LIST_ELEMENTS_SIZE] == 63 && fields[BLEIWURZEL_LIST_KEY] == 0);
+    NEED(bleiwurzel_policy_list(file, sizeof file, 1, fields) == BLEIWURZEL_LIST_SIGNED);
+    NEED(fields[BLEIWURZEL_LIST_COUNTER] == 5 && fields[BLEIWURZEL_LIST_KEY_SIZE] == 256 && fields[BLEIWURZEL_LIST_KEY] == 119);
+    NEED(fields[BLEIWURZEL_LIST_SIGNATURE] == 375 && fields[BLEIWURZEL_LIST_SIZE] == 524 && fields[BLEIWURZEL_LIST_VERSION] == 0x0200);
+    NEED(bleiwurzel_policy_list(file, sizeof file, 2, fields) == BLEIWURZEL_LIST_NONE && fields[BLEIWURZEL_LIST_SIZE] == 0);
+    NEED(bleiwurzel_policy_element(file, sizeof file, 0, 0, fields) == BLEIWURZEL_ELEMENT_LAUNCH);
+    NEED(fields[BLEIWURZEL_ELEMENT_OFFSET] == 44 && fields[BLEIWURZEL_ELEMENT_SIZE] == 50 && fields[BLEIWURZEL_ELEMENT_TYPE] == 0x10);
+    NEED(fields[BLEIWURZEL_ELEMENT_CONTROL] == 1 && fields[BLEIWURZEL_ELEMENT_SINIT_MIN_VERSION] == 7);
+    NEED(fields[BLEIWURZEL_ELEMENT_HASH_ALG] == 0x000B && fields[BLEIWURZEL_ELEMENT_DIGESTS] == 1);
+    NEED(bleiwurzel_policy_element(file, sizeof file, 0, 1, fields) == BLEIWURZEL_ELEMENT_UNJUDGED);
+    NEED(fields[BLEIWURZEL_ELEMENT_TYPE] == 0x13 && fields[BLEIWURZEL_ELEMENT_OFFSET] == 94);
+    NEED(bleiwurzel_policy_element(file, sizeof file, 0, 2, fields) == BLEIWURZEL_ELEMENT_NONE);
+    put(file + 98, 3, 4);
+    NEED(bleiwurzel_policy_element(file, sizeof file, 0, 1, fields) == BLEIWURZEL_ELEMENT_CUSTOM);
+}
+
+int main(void)
+{
+    build_heap();
+    build_module();
+    build_window();
+    build_record();
+    digests();
+    pages_by_themselves();
+    launches();
+    captures();
+    policies();
+    (void)example_main;
+    return wrong;
+}

@@ -37,7 +37,7 @@ fn changed(label: &[u8], at: usize, value: u64) {
     show(label, &m, hash);
 }
 
-pub fn unsigned() {
+pub(crate) fn unsigned() {
     changed(b"one unsigned list", 35, 1);
     changed(b"a control of another value", 52, 1);
     changed(b"another digest", 93, 0);
@@ -54,7 +54,7 @@ pub fn unsigned() {
 }
 
 // Rule 28 looks at bytes 38 to 69 of a record.
-pub fn record_sizes() {
+pub(crate) fn record_sizes() {
     let mut m = [0u8; 94];
     put_file(&mut m);
     let hash = hash_of(&m[36..94]);
@@ -66,7 +66,7 @@ pub fn record_sizes() {
     show_first(b"hash in a record of 0 bytes", &m, &r, 0);
 }
 
-pub fn refused() {
+pub(crate) fn refused() {
     changed(b"another first character", 0, 0);
     changed(b"list count 0", 35, 0);
     changed(b"list count 2", 35, 2);
@@ -89,7 +89,7 @@ fn changed_signed(label: &[u8], at: usize, value: u64) {
 }
 
 // The measure of a signed list is that of its key, which stands at 98 to 353.
-pub fn signed() {
+pub(crate) fn signed() {
     changed_signed(b"one signed list", 35, 1);
     changed_signed(b"another digest in a signed list", 93, 0);
     changed_signed(b"another first byte of the key", 98, 0);
@@ -112,7 +112,7 @@ fn joined(first: [u8; 32], second: [u8; 32]) -> [u8; 32] {
 }
 
 // Two lists without elements, of the versions 0x0201 and 0x0200.
-pub fn two() {
+pub(crate) fn two() {
     let mut m = [0u8; 52];
     put_front(&mut m, 2);
     put_list(&mut m, LIST, 0x0010, 0);

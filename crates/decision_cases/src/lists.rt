@@ -24,7 +24,7 @@ fn show(label: &[u8], file: &[u8], acm: u64) {
 }
 
 // SINITMinVersion of the element is 2.
-pub fn versions() {
+pub(crate) fn versions() {
     let mut m = [0u8; 94];
     put_file(&mut m);
     show(b"an element of version 2, AcmVersion 2", &m, 2);
@@ -43,7 +43,7 @@ fn two_digests(label: &[u8], first: u8, second: u8) {
     show(label, &m, 0);
 }
 
-pub fn digests() {
+pub(crate) fn digests() {
     let mut m = [0u8; 94];
     put_file(&mut m);
     put(&mut m, 93, 1, 0x5B);
@@ -72,7 +72,7 @@ fn with_type(label: &[u8], kind: u64) {
     show(label, &m, 2);
 }
 
-pub fn types() {
+pub(crate) fn types() {
     with_type(b"types 0x10 and 0x10", 0x10);
     with_type(b"types 3 and 0x10", 3);
     with_type(b"types 0x13 and 0x10", 0x13);
@@ -97,7 +97,7 @@ pub fn types() {
     );
 }
 
-pub fn algorithms() {
+pub(crate) fn algorithms() {
     let mut m = [0u8; 94];
     put_file(&mut m);
     put(&mut m, ELEMENT + 14, 2, SM3);
@@ -115,7 +115,7 @@ pub fn algorithms() {
 }
 
 // A list without elements; and one with two, of which one has the low version and the other names the digest.
-pub fn elements() {
+pub(crate) fn elements() {
     let mut none = [0u8; 44];
     put_front(&mut none, 1);
     put_list(&mut none, LIST, 0x0010, 0);
@@ -133,7 +133,7 @@ pub fn elements() {
     show(b"version 3 in one element, the digest in the other", &m, 2);
 }
 
-pub fn signed() {
+pub(crate) fn signed() {
     let mut m = [0u8; 610];
     put_front(&mut m, 1);
     put_signed(&mut m, LIST);
@@ -159,7 +159,7 @@ fn three(label: &[u8], first: u8, second: u8, third: u8) {
     show(label, &m, 2);
 }
 
-pub fn numbers() {
+pub(crate) fn numbers() {
     three(b"list 0 of three", LAST, 0, 0);
     three(b"list 1 of three", 0, LAST, 0);
     three(b"list 2 of three", 0, 0, LAST);
@@ -169,7 +169,7 @@ pub fn numbers() {
 }
 
 // The lists of a file that is not of the grammar are not looked at.
-pub fn refused() {
+pub(crate) fn refused() {
     let mut m = [0u8; 94];
     put_file(&mut m);
     put(&mut m, 35, 1, 2);

@@ -38,7 +38,7 @@ fn in_window(label: &[u8], base: u64, size: u64) {
     show(label, &w, base, size);
 }
 
-pub fn sizes() {
+pub(crate) fn sizes() {
     in_window(b"36 bytes at 0x1000", 0x1000, 36);
     in_window(b"35 bytes at 0x1000", 0x1000, 35);
     in_window(b"0 bytes at 0x1000", 0x1000, 0);
@@ -46,7 +46,7 @@ pub fn sizes() {
     in_window(b"101 bytes at 0x1000", 0x1000, 101);
 }
 
-pub fn bounds() {
+pub(crate) fn bounds() {
     in_window(b"36 bytes at 0x1040", 0x1040, 36);
     in_window(b"37 bytes at 0x1040", 0x1040, 37);
     in_window(b"36 bytes at 0x1041", 0x1041, 36);
@@ -57,7 +57,7 @@ pub fn bounds() {
 }
 
 // The largest file, in a window of 65,537 zeros.
-pub fn largest() {
+pub(crate) fn largest() {
     let w = [0u8; 65537];
     show(b"65536 bytes at 0x1001", &w, 0x1001, 65536);
     show(b"65537 bytes at 0x1000", &w, 0x1000, 65537);

@@ -31,7 +31,7 @@ fn first_bytes(label: &[u8], r: &[u8], n: usize) {
     }
 }
 
-pub fn size() {
+pub(crate) fn size() {
     let mut r = [0u8; 71];
     fill(&mut r);
     first_bytes(b"record of 70 bytes", &r, 70);
@@ -48,7 +48,7 @@ fn one(label: &[u8], at: usize, width: usize, value: u64, flags: u64, acm: u64) 
     show(label, decision::record(&r, flags, acm));
 }
 
-pub fn fields() {
+pub(crate) fn fields() {
     one(b"version 0x03FF", 0, 2, 0x03FF, 0, 2);
     one(b"version 0x02FF", 0, 2, 0x02FF, 0, 2);
     one(b"version 0x0400", 0, 2, 0x0400, 0, 2);
@@ -62,7 +62,7 @@ pub fn fields() {
 }
 
 // Bits of the module's flags, with bits of control.
-pub fn flags() {
+pub(crate) fn flags() {
     one(b"flag 14, control 0", 22, 4, 0, 0x4000, 2);
     one(b"flag 15, control 0", 22, 4, 0, 0x8000, 2);
     one(b"flags 14 and 15, control 0", 22, 4, 0, 0xC000, 2);
@@ -83,7 +83,7 @@ pub fn flags() {
 }
 
 // SINITMinVersion and AcmVersion.
-pub fn versions() {
+pub(crate) fn versions() {
     one(b"SINITMinVersion 2, AcmVersion 2", 5, 1, 2, 0, 2);
     one(b"SINITMinVersion 3, AcmVersion 2", 5, 1, 3, 0, 2);
     one(b"SINITMinVersion 0, AcmVersion 0", 5, 1, 0, 0, 0);
@@ -92,7 +92,7 @@ pub fn versions() {
 }
 
 // More than one rule fails, also under ANY.
-pub fn order() {
+pub(crate) fn order() {
     one(b"type 2, flag 14, AcmVersion 1", 4, 1, 2, 0x4000, 1);
     one(b"type 0, flag 14, AcmVersion 1", 4, 1, 0, 0x4000, 1);
     one(b"type 1, flag 14, AcmVersion 2", 4, 1, 1, 0x4000, 2);

@@ -2,19 +2,19 @@
 ghost use Prim.Native.Nat.{_<_};
 
 // The algorithms that the cases name.
-pub const SHA256: u64 = 0x000B;
+pub(crate) const SHA256: u64 = 0x000B;
 
-pub const SHA384: u64 = 0x000C;
+pub(crate) const SHA384: u64 = 0x000C;
 
-pub const SM3: u64 = 0x0012;
+pub(crate) const SM3: u64 = 0x0012;
 
 // Where the first list of a file and its first element stand.
-pub const LIST: usize = 36;
+pub(crate) const LIST: usize = 36;
 
-pub const ELEMENT: usize = 44;
+pub(crate) const ELEMENT: usize = 44;
 
 // Writes a number of `width` bytes at an offset, the lowest byte first, where it fits.
-pub fn put(m: &mut [u8], at: usize, width: usize, value: u64) {
+pub(crate) fn put(m: &mut [u8], at: usize, width: usize, value: u64) {
     if m.len() < width {
         return;
     }
@@ -31,7 +31,7 @@ pub fn put(m: &mut [u8], at: usize, width: usize, value: u64) {
 }
 
 // Writes bytes at an offset, where they fit.
-pub fn put_bytes(m: &mut [u8], at: usize, bytes: &[u8]) {
+pub(crate) fn put_bytes(m: &mut [u8], at: usize, bytes: &[u8]) {
     if m.len() < bytes.len() {
         return;
     }
@@ -46,23 +46,23 @@ pub fn put_bytes(m: &mut [u8], at: usize, bytes: &[u8]) {
 }
 
 // The digest that the cases ask for, or one that differs from it in its last byte.
-pub fn digest(last: u8) -> [u8; 32] {
+pub(crate) fn digest(last: u8) -> [u8; 32] {
     let mut d = [0x5Au8; 32];
     d[31] = last;
     d
 }
 
-pub const LAST: u8 = 0x5A;
+pub(crate) const LAST: u8 = 0x5A;
 
 // What stands before the lists: the mark, zeros and the list count.
-pub fn put_front(m: &mut [u8], lists: u64) {
+pub(crate) fn put_front(m: &mut [u8], lists: u64) {
     put_bytes(m, 0, b"Intel(R) TXT LCP_POLICY_DATA");
     put(m, 28, 7, 0);
     put(m, 35, 1, lists);
 }
 
 // The front of a list with elements of so many bytes: version, signature algorithm, elements size.
-pub fn put_list(m: &mut [u8], at: usize, algorithm: u64, size: u64)
+pub(crate) fn put_list(m: &mut [u8], at: usize, algorithm: u64, size: u64)
     requires { ⌜ at < 65536 ⌝ }
 {
     put(m, at, 2, 0x0201);
@@ -71,7 +71,7 @@ pub fn put_list(m: &mut [u8], at: usize, algorithm: u64, size: u64)
 }
 
 // The size, the type and the control of an element.
-pub fn put_element(m: &mut [u8], at: usize, size: u64, kind: u64)
+pub(crate) fn put_element(m: &mut [u8], at: usize, size: u64, kind: u64)
     requires { ⌜ at < 65536 ⌝ }
 {
     put(m, at, 4, size);
@@ -80,7 +80,14 @@ pub fn put_element(m: &mut [u8], at: usize, size: u64, kind: u64)
 }
 
 // A launch element up to its digests, of which there are `count`.
-pub fn put_launch(m: &mut [u8], at: usize, size: u64, version: u64, algorithm: u64, count: u64)
+pub(crate) fn put_launch(
+    m: &mut [u8],
+    at: usize,
+    size: u64,
+    version: u64,
+    algorithm: u64,
+    count: u64,
+)
     requires { ⌜ at < 65536 ⌝ }
 {
     put_element(m, at, size, 0x10);
@@ -90,13 +97,13 @@ pub fn put_launch(m: &mut [u8], at: usize, size: u64, version: u64, algorithm: u
     put(m, at + 16, 2, count);
 }
 
-pub fn put_digest(m: &mut [u8], at: usize, last: u8) {
+pub(crate) fn put_digest(m: &mut [u8], at: usize, last: u8) {
     let d = digest(last);
     put_bytes(m, at, &d);
 }
 
 // A launch element of 50 bytes with SINITMinVersion 2 and one digest of SHA-256.
-pub fn put_naming(m: &mut [u8], at: usize, last: u8)
+pub(crate) fn put_naming(m: &mut [u8], at: usize, last: u8)
     requires { ⌜ at < 65536 ⌝ }
 {
     put_launch(m, at, 50, 2, SHA256, 1);
@@ -104,14 +111,14 @@ pub fn put_naming(m: &mut [u8], at: usize, last: u8)
 }
 
 // A file of 94 bytes with one list, unsigned, whose one element names the digest.
-pub fn put_file(m: &mut [u8]) {
+pub(crate) fn put_file(m: &mut [u8]) {
     put_front(m, 1);
     put_list(m, LIST, 0x0010, 50);
     put_naming(m, ELEMENT, LAST);
 }
 
 // A signed list of 574 bytes whose one element names the digest: the counter, the key size, a key of 256 bytes of 7 and a signature.
-pub fn put_signed(m: &mut [u8], at: usize)
+pub(crate) fn put_signed(m: &mut [u8], at: usize)
     requires { ⌜ at < 32768 ⌝ }
 {
     put_list(m, at, 0x0014, 50);
@@ -123,12 +130,12 @@ pub fn put_signed(m: &mut [u8], at: usize)
     put_bytes(m, at + 318, &key);
 }
 
-pub fn print(text: &[u8]) {
+pub(crate) fn print(text: &[u8]) {
     io::write_all(1, text);
 }
 
 // A line: the label and a number.
-pub fn show_number(label: &[u8], n: u64) {
+pub(crate) fn show_number(label: &[u8], n: u64) {
     print(label);
     print(b": ");
     io::print_decimal(1, n);

@@ -24,7 +24,7 @@ fn size(x: u64) {
     answer(mle::size_holds(x));
 }
 
-pub fn sizes() {
+pub(crate) fn sizes() {
     heading(b"MLE Size");
     size(0);
     size(1);
@@ -55,7 +55,7 @@ fn at_offset(offset: usize)
     judge(&m, LINEAR + offset as u64);
 }
 
-pub fn offsets() {
+pub(crate) fn offsets() {
     heading(b"offset of the header in its page");
     at_offset(0);
     at_offset(1);
@@ -74,7 +74,7 @@ fn at_base(base: u64) {
     judge(&m, base);
 }
 
-pub fn bases() {
+pub(crate) fn bases() {
     heading(b"header base");
     at_base(0x5F_F100);
     at_base(0x60_0100);
@@ -102,7 +102,7 @@ fn counted(first: u32, count: u32) {
     answer(mle::header_holds(&m, image, BASE, MLE_SIZE, LEAST_VERSION));
 }
 
-pub fn counts() {
+pub(crate) fn counts() {
     heading(b"first linear page, count");
     counted(FIRST, 0);
     counted(FIRST, 1);
@@ -121,7 +121,7 @@ fn lying(a: u64) {
     judge(&m, BASE);
 }
 
-pub fn outside() {
+pub(crate) fn outside() {
     heading(b"physical address of the header's page");
     lying(0x10_4000);
     lying(0x10_6000);
@@ -144,7 +144,7 @@ fn field(at: usize, width: usize, value: u64)
     judge(&m, BASE);
 }
 
-pub fn uuids() {
+pub(crate) fn uuids() {
     heading(b"UUID, a byte: its offset, its value");
     field(0, 1, 0x5A);
     field(0, 1, 0x5B);
@@ -153,7 +153,7 @@ pub fn uuids() {
     field(15, 1, 0x43);
 }
 
-pub fn header_lengths() {
+pub(crate) fn header_lengths() {
     heading(b"HeaderLen");
     field(16, 4, 51);
     field(16, 4, 52);
@@ -162,7 +162,7 @@ pub fn header_lengths() {
     field(16, 4, 0);
 }
 
-pub fn versions() {
+pub(crate) fn versions() {
     heading(b"version, at least 0x20003");
     field(20, 4, 0x2_0002);
     field(20, 4, 0x2_0003);
@@ -171,7 +171,7 @@ pub fn versions() {
     field(20, 4, 0x3_0000);
 }
 
-pub fn entry_points() {
+pub(crate) fn entry_points() {
     heading(b"EntryPoint");
     field(24, 4, 0x5F_EFFF);
     field(24, 4, 0x5F_F000);
@@ -181,7 +181,7 @@ pub fn entry_points() {
     field(24, 4, 0xFFFF_FFFF);
 }
 
-pub fn first_pages() {
+pub(crate) fn first_pages() {
     heading(b"FirstValidPage");
     field(28, 4, 0x5F_E000);
     field(28, 4, 0x5F_F000);
@@ -202,7 +202,7 @@ fn from_to(start: u64, end: u64, size: u64) {
     answer(mle::header_holds(&m, two_pages(), BASE, size, LEAST_VERSION));
 }
 
-pub fn ends() {
+pub(crate) fn ends() {
     heading(b"MleStart, MleEnd, MLE Size");
     from_to(0, 8191, 8192);
     from_to(0, 8192, 8192);
@@ -217,7 +217,7 @@ pub fn ends() {
     from_to(0, 8192, 0x1_0000_2000);
 }
 
-pub fn free_fields() {
+pub(crate) fn free_fields() {
     heading(b"fields that no rule names");
     field(40, 8, 0xFFFF_FFFF_FFFF_FFFF);
     field(48, 4, 0xFFFF_FFFF);

@@ -37,7 +37,7 @@ fn digest(label: &[u8], one: u64, other: u64, first: u32, count: u32) {
     print_digest(&d);
 }
 
-pub fn digests() {
+pub(crate) fn digests() {
     digest(b"digest of a, c", PAGE_A, PAGE_C, FIRST, 2);
     digest(b"digest of c, a", PAGE_C, PAGE_A, FIRST, 2);
     digest(b"digest of a", PAGE_A, PAGE_C, FIRST, 1);
@@ -75,7 +75,7 @@ fn list(label: &[u8], count: u32, places: &mut [u64]) {
     print_places(places);
 }
 
-pub fn lists() {
+pub(crate) fn lists() {
     let mut short = [7u64; 1];
     list(b"two pages, 1 place:", 2, &mut short);
     let mut equal = [7u64; 2];

@@ -3,14 +3,14 @@
 use mle::Image;
 ghost use Prim.Native.Nat.{_<_};
 
-pub const WINDOW: u64 = 0x10_0000;
+pub(crate) const WINDOW: u64 = 0x10_0000;
 
 // The pages of content in physical memory, and where they stand in the window.
-pub const PAGE_A: u64 = 0x10_4000;
+pub(crate) const PAGE_A: u64 = 0x10_4000;
 
-pub const PAGE_B: u64 = 0x10_5000;
+pub(crate) const PAGE_B: u64 = 0x10_5000;
 
-pub const PAGE_C: u64 = 0x10_6000;
+pub(crate) const PAGE_C: u64 = 0x10_6000;
 
 const AT_A: usize = 0x4000;
 
@@ -19,20 +19,20 @@ const AT_B: usize = 0x5000;
 const AT_C: usize = 0x6000;
 
 // Linear page 1535, its linear address, and a header base in it.
-pub const FIRST: u32 = 1535;
+pub(crate) const FIRST: u32 = 1535;
 
-pub const LINEAR: u64 = 0x5F_F000;
+pub(crate) const LINEAR: u64 = 0x5F_F000;
 
-pub const BASE: u64 = 0x5F_F100;
+pub(crate) const BASE: u64 = 0x5F_F100;
 
 // Where that header stands in the window.
-pub const HEADER: usize = 0x4100;
+pub(crate) const HEADER: usize = 0x4100;
 
-pub const MLE_SIZE: u64 = 8192;
+pub(crate) const MLE_SIZE: u64 = 8192;
 
-pub const LEAST_VERSION: u64 = 0x2_0003;
+pub(crate) const LEAST_VERSION: u64 = 0x2_0003;
 
-pub fn two_pages() -> Image {
+pub(crate) fn two_pages() -> Image {
     Image {
         window: WINDOW,
         tables: WINDOW,
@@ -61,7 +61,7 @@ fn put_bytes(m: &mut [u8], at: usize, n: usize, value: u64, divisor: u64)
 }
 
 // Writes a number of `width` bytes, the lowest byte first.
-pub fn put(m: &mut [u8], at: usize, width: usize, value: u64) {
+pub(crate) fn put(m: &mut [u8], at: usize, width: usize, value: u64) {
     put_bytes(m, at, width, value, 256);
 }
 
@@ -71,7 +71,7 @@ fn put_page(m: &mut [u8], at: usize, character: u64) {
 }
 
 // The tables, with the linear pages 1535 and 1536 at two physical addresses, and the content. Bit 0 says that an entry is present.
-pub fn build(m: &mut [u8], one: u64, other: u64) {
+pub(crate) fn build(m: &mut [u8], one: u64, other: u64) {
     put(m, 0, 8, 0x10_1001);
     put(m, 0x1010, 8, 0x10_2001);
     put(m, 0x1018, 8, 0x10_3001);
@@ -93,7 +93,7 @@ fn put_front(m: &mut [u8], at: usize)
 }
 
 // A header of 52 bytes: behind its front EntryPoint, FirstValidPage, MleStart, MleEnd, and fields that no rule names.
-pub fn put_header(m: &mut [u8], at: usize)
+pub(crate) fn put_header(m: &mut [u8], at: usize)
     requires { ⌜ at < 65536 ⌝ }
 {
     put_front(m, at);
@@ -105,25 +105,25 @@ pub fn put_header(m: &mut [u8], at: usize)
     put(m, at + 48, 4, 0);
 }
 
-pub fn print(text: &[u8]) {
+pub(crate) fn print(text: &[u8]) {
     io::write_all(1, text);
 }
 
 // A line that says what is changed in the lines after it.
-pub fn heading(text: &[u8]) {
+pub(crate) fn heading(text: &[u8]) {
     print(text);
     print(b"\n");
 }
 
 // A number that was chosen, in front of an answer.
-pub fn number(x: u64) {
+pub(crate) fn number(x: u64) {
     print(b"0x");
     io::print_hex(1, x, 1);
     print(b" ");
 }
 
 // The answer: whether the rule holds.
-pub fn answer(holds: bool) {
+pub(crate) fn answer(holds: bool) {
     if holds {
         print(b"holds\n");
     } else {

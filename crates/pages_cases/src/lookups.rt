@@ -38,7 +38,7 @@ fn show_numbers() {
     show_page(&w, ORIGIN + 0x1000, BASE, 527881);
 }
 
-pub fn show_lookups() {
+pub(crate) fn show_lookups() {
     show_numbers();
     print_bool(pages::present(1));
     print_bool(pages::present(0xffff_ffff_ffff_fffe));

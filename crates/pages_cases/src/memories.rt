@@ -6,7 +6,7 @@ use pages::WalkAnswer;
 use range::Range;
 
 // The first byte of most windows.
-pub const ORIGIN: u64 = 0x10_0000;
+pub(crate) const ORIGIN: u64 = 0x10_0000;
 
 // The window's first byte, a heap and a module above all windows, and a DPR that holds every window.
 fn memory(window: u64) -> Memory {
@@ -35,7 +35,7 @@ fn print_space(x: u64) {
 }
 
 // A number and the end of the line.
-pub fn print_last(x: u64) {
+pub(crate) fn print_last(x: u64) {
     io::print_decimal(1, x);
     io::write_all(1, b"\n");
 }
@@ -57,17 +57,17 @@ fn show_in(w: &Window, m: Memory, t: u64) {
 }
 
 // The answer for a window at ORIGIN and a table base.
-pub fn show_base(w: &Window, t: u64) {
+pub(crate) fn show_base(w: &Window, t: u64) {
     show_in(w, memory(ORIGIN), t);
 }
 
 // The answer for a window at ORIGIN with its pointer table in page 1.
-pub fn show(w: &Window) {
+pub(crate) fn show(w: &Window) {
     show_base(w, BASE);
 }
 
 // The same with another heap.
-pub fn show_heap(w: &Window, base: u64, size: u64) {
+pub(crate) fn show_heap(w: &Window, base: u64, size: u64) {
     let heap = Range { base, size };
     let mut m = memory(ORIGIN);
     m.heap = heap;
@@ -75,7 +75,7 @@ pub fn show_heap(w: &Window, base: u64, size: u64) {
 }
 
 // The same with another module.
-pub fn show_module(w: &Window, base: u64, size: u64) {
+pub(crate) fn show_module(w: &Window, base: u64, size: u64) {
     let sinit = Range { base, size };
     let mut m = memory(ORIGIN);
     m.sinit = sinit;
@@ -83,7 +83,7 @@ pub fn show_module(w: &Window, base: u64, size: u64) {
 }
 
 // The same with no region but these.
-pub fn show_regions(w: &Window, dpr: Range, low: Range, high: Range) {
+pub(crate) fn show_regions(w: &Window, dpr: Range, low: Range, high: Range) {
     let mut m = memory(ORIGIN);
     m.dpr = dpr;
     m.low = low;
@@ -99,12 +99,12 @@ fn show_part(w: &[u8], n: usize, m: Memory, t: u64) {
 }
 
 // The same for a window that begins at an origin.
-pub fn show_first(w: &Window, n: usize, origin: u64, t: u64) {
+pub(crate) fn show_first(w: &Window, n: usize, origin: u64, t: u64) {
     show_part(w, n, memory(origin), t);
 }
 
 // The number of the answer alone, before a space.
-pub fn show_number(w: &Window) {
+pub(crate) fn show_number(w: &Window) {
     match pages::walk(w, memory(ORIGIN), BASE) {
         WalkAnswer::Mapped { first: _, count: _ } => print_space(0),
         WalkAnswer::Refused(n) => print_space(n as u64),

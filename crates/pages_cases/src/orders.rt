@@ -38,7 +38,7 @@ fn show_tables_below() {
 }
 
 // Rule 16: two pages, a page and the tables, and tables.
-pub fn show_orders() {
+pub(crate) fn show_orders() {
     show_pair(4, 5);
     show_pair(5, 4);
     show_pair(4, 4);
@@ -73,7 +73,7 @@ fn show_directories(n: usize)
 }
 
 // Rule 18: the sixteenth table and the seventeenth, which is tried for 14, 15 and 16 first.
-pub fn show_counts() {
+pub(crate) fn show_counts() {
     show_tables(13, entry(ORIGIN, 16));
     show_tables(14, entry(ORIGIN, 17));
     show_tables(14, entry(ORIGIN, 17) | 0x80);
@@ -133,7 +133,7 @@ fn show_ends() {
 }
 
 // Rule 19: the linear numbers follow one another, across tables and directories too.
-pub fn show_linear() {
+pub(crate) fn show_linear() {
     show_indices(0, 3, 1);
     show_indices(0, 3, 2);
     show_indices(5, 3, 6);
@@ -185,7 +185,7 @@ fn show_pages() {
 }
 
 // A level is finished before the next: all directory entries before the pages of the first table.
-pub fn show_breadth() {
+pub(crate) fn show_breadth() {
     show_levels(4, 5, 0);
     show_levels(5, 4, 0);
     show_levels(4, 1, 0x80);

@@ -46,7 +46,7 @@ fn show_outside() {
 }
 
 // Rules 14 and 15: the base on a page, and that page inside the window.
-pub fn show_bases() {
+pub(crate) fn show_bases() {
     show_aligned();
     show_outside();
     show_short_windows();
@@ -69,7 +69,7 @@ fn show_base_module(base: u64, size: u64) {
 }
 
 // Rule 17 for the base: the hole from both sides, then the heap and the module.
-pub fn show_base_ranges() {
+pub(crate) fn show_base_ranges() {
     show_empty(0x9f000, 0x9f000);
     show_empty(0x9f000, 0xa0000);
     show_empty(0xff000, 0xff000);
@@ -105,7 +105,7 @@ fn show_entry_outside() {
 }
 
 // Rule 15 for entries.
-pub fn show_window() {
+pub(crate) fn show_window() {
     show_second(23, WINDOW_SIZE);
     show_second(23, WINDOW_SIZE - 1);
     show_second(23, 96256);
@@ -143,7 +143,7 @@ fn show_modules() {
 }
 
 // Rule 17 for entries.
-pub fn show_ranges() {
+pub(crate) fn show_ranges() {
     show_heaps();
     show_modules();
     show_hole();
@@ -189,7 +189,7 @@ fn show_cut_regions() {
 }
 
 // Rule 20: each page wholly in one region.
-pub fn show_protected() {
+pub(crate) fn show_protected() {
     show_one_region();
     show_two_regions();
     show_cut_regions();

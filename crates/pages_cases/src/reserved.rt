@@ -46,7 +46,7 @@ fn show_absent() {
     show(&w);
 }
 
-pub fn show_all() {
+pub(crate) fn show_all() {
     show_kind(POINTERS, 2);
     show_kind(DIRECTORY, 3);
     show_kind(TABLE, 4);

@@ -26,7 +26,7 @@ fn at_base(label: &[u8], base: u64) {
     );
 }
 
-pub fn base() {
+pub(crate) fn base() {
     at_base(b"base 0x7F000000", BASE);
     at_base(b"base 0x7F000001", BASE + 1);
     at_base(b"base 0x7F000800", BASE + 2048);
@@ -41,7 +41,7 @@ fn first_bytes(label: &[u8], m: &[u8], n: usize) {
     }
 }
 
-pub fn length() {
+pub(crate) fn length() {
     let mut least = [0u8; 704];
     fill(&mut least);
     show_module(b"length 704", &least);
@@ -64,14 +64,14 @@ fn under_capacity(label: &[u8], capacity: u64) {
     );
 }
 
-pub fn capacity() {
+pub(crate) fn capacity() {
     under_capacity(b"capacity 768", 768);
     under_capacity(b"capacity 767", 767);
     under_capacity(b"capacity 0", 0);
     under_capacity(b"capacity 2^64 - 1", 0xFFFF_FFFF_FFFF_FFFF);
 }
 
-pub fn end() {
+pub(crate) fn end() {
     let mut below = [0u8; 4032];
     fill(&mut below);
     show(
@@ -88,7 +88,7 @@ pub fn end() {
     at_base(b"base 2^64 - 4096", 0xFFFF_FFFF_FFFF_F000);
 }
 
-pub fn header() {
+pub(crate) fn header() {
     one(b"type 1", 0, 2, 1);
     one(b"type 3", 0, 2, 3);
     one(b"type 0x0102", 0, 2, 0x0102);
@@ -103,19 +103,19 @@ pub fn header() {
     one(b"KeySize 65", 120, 4, 65);
 }
 
-pub fn size() {
+pub(crate) fn size() {
     one(b"size 191", 24, 4, 191);
     one(b"size 192", 24, 4, 192);
     one(b"size 193", 24, 4, 193);
     one(b"size 192 + 2^30", 24, 4, 192 + 0x4000_0000);
 }
 
-pub fn free_in_header() {
+pub(crate) fn free_in_header() {
     one(b"sub-type 1", 2, 2, 1);
     one(b"flags 0xFFFF", 14, 2, 0xFFFF);
 }
 
-pub fn gdt() {
+pub(crate) fn gdt() {
     one(b"GDTBasePtr 644", 44, 4, 644);
     one(b"GDTBasePtr 643", 44, 4, 643);
     one(b"GDTBasePtr 744", 44, 4, 744);
@@ -123,7 +123,7 @@ pub fn gdt() {
     one(b"GDTBasePtr 2^32 - 1", 44, 4, 0xFFFF_FFFF);
 }
 
-pub fn gdt_limit() {
+pub(crate) fn gdt_limit() {
     let mut m = [0u8; 66240];
     fill(&mut m);
     put(&mut m, 44, 4, 644);
@@ -133,14 +133,14 @@ pub fn gdt_limit() {
     show_module(b"GDTLimit 65536", &m);
 }
 
-pub fn entry_point() {
+pub(crate) fn entry_point() {
     one(b"EntryPoint 644", 52, 4, 644);
     one(b"EntryPoint 643", 52, 4, 643);
     one(b"EntryPoint 767", 52, 4, 767);
     one(b"EntryPoint 768", 52, 4, 768);
 }
 
-pub fn selector() {
+pub(crate) fn selector() {
     two(b"SegSel 8, GDTLimit 23", 48, 8, 40, 23);
     two(b"SegSel 8, GDTLimit 22", 48, 8, 40, 22);
     two(b"SegSel 16, GDTLimit 31", 48, 16, 40, 31);
@@ -152,14 +152,14 @@ pub fn selector() {
     two(b"SegSel 2^32 - 8, GDTLimit 31", 48, 0xFFFF_FFF8, 40, 31);
 }
 
-pub fn scratch() {
+pub(crate) fn scratch() {
     one(b"ScratchSize 9", 124, 4, 9);
     one(b"ScratchSize 10", 124, 4, 10);
     one(b"ScratchSize 2^30", 124, 4, 0x4000_0000);
     one(b"ScratchSize 2^32 - 1", 124, 4, 0xFFFF_FFFF);
 }
 
-pub fn table() {
+pub(crate) fn table() {
     one(b"UUID byte 0 0xAB", TABLE, 1, 0xAB);
     one(b"UUID byte 15 0x5B", TABLE + 15, 1, 0x5B);
     one(b"table type 0", TABLE + 16, 1, 0);
@@ -170,7 +170,7 @@ pub fn table() {
 }
 
 // The table at the module's end: after a scratch area of 20 words it ends with the module, after 21 it does not.
-pub fn table_end() {
+pub(crate) fn table_end() {
     let mut m = [0u8; 768];
     fill(&mut m);
     put(&mut m, 44, 4, 744);
@@ -183,7 +183,7 @@ pub fn table_end() {
     show_module(b"table 728 to 772", &m);
 }
 
-pub fn list() {
+pub(crate) fn list() {
     one(b"count 0", LIST, 4, 0);
     one(b"list at 764", TABLE + 20, 4, 764);
     one(b"list at 765", TABLE + 20, 4, 765);
@@ -193,7 +193,7 @@ pub fn list() {
 }
 
 // A list of one entry that ends with the module, one byte behind it, and a list of two of which the first matches.
-pub fn list_end() {
+pub(crate) fn list_end() {
     let mut m = [0u8; 768];
     fill(&mut m);
     put(&mut m, TABLE + 20, 4, 748);
@@ -208,7 +208,7 @@ pub fn list_end() {
     show_module(b"entry 753 to 769", &m);
 }
 
-pub fn most_entries() {
+pub(crate) fn most_entries() {
     let mut m = [0u8; 1856];
     fill(&mut m);
     put(&mut m, TABLE + 20, 4, 768);
@@ -221,7 +221,7 @@ pub fn most_entries() {
     show_module(b"count 63, the one behind matches", &m);
 }
 
-pub fn entry() {
+pub(crate) fn entry() {
     one(b"entry vendor 0x8087", ENTRY + 4, 2, 0x8087);
     one(b"entry device 0xB002", ENTRY + 6, 2, 0xB002);
     one(b"entry revision 4", ENTRY + 8, 2, 4);
@@ -244,7 +244,7 @@ fn revisions(label: &[u8], flags: u64, revision: u64, own: u16) {
     show(label, sinit::read(&m, BASE, CAPACITY, of, VERSION));
 }
 
-pub fn mask() {
+pub(crate) fn mask() {
     revisions(b"flags 1, revisions 4 and 5", 1, 4, 5);
     revisions(b"flags 1, revisions 2 and 5", 1, 2, 5);
     revisions(b"flags 1, revisions 5 and 5", 1, 5, 5);
@@ -256,7 +256,7 @@ pub fn mask() {
     revisions(b"flags 1, revisions 0x8000 and 0x8001", 1, 0x8000, 0x8001);
 }
 
-pub fn later_entry() {
+pub(crate) fn later_entry() {
     let mut m = [0u8; 768];
     fill(&mut m);
     put(&mut m, LIST, 4, 2);
@@ -274,7 +274,7 @@ fn of_chipset(label: &[u8], of: Chipset) {
     show(label, sinit::read(&m, BASE, CAPACITY, of, VERSION));
 }
 
-pub fn chipset() {
+pub(crate) fn chipset() {
     of_chipset(
         b"chipset vendor 0x8085",
         Chipset {
@@ -311,7 +311,7 @@ fn of_version(label: &[u8], version: u64) {
     );
 }
 
-pub fn version() {
+pub(crate) fn version() {
     of_version(b"OsSinitData version 6", 6);
     of_version(b"OsSinitData version 7", 7);
     of_version(b"OsSinitData version 8", 8);
@@ -319,14 +319,14 @@ pub fn version() {
     one(b"OsSinitDataVer 2^32 - 1", TABLE + 24, 4, 0xFFFF_FFFF);
 }
 
-pub fn values() {
+pub(crate) fn values() {
     one(b"flags 0xC000", 14, 2, 0xC000);
     one(b"MinMleHeaderVer 2^32 - 1", TABLE + 28, 4, 0xFFFF_FFFF);
     one(b"AcmVersion 255", TABLE + 36, 1, 255);
 }
 
 // Two rules fail at a time: the lower number is given.
-pub fn order() {
+pub(crate) fn order() {
     let mut m = [0u8; 768];
     fill(&mut m);
     put(&mut m, 0, 2, 1);

@@ -4,20 +4,20 @@ use sinit::ModuleAnswer;
 ghost use Prim.Native.Nat.{_<_};
 
 // Where the information table, the chipset list and its first entry stand in the module.
-pub const TABLE: usize = 644;
+pub(crate) const TABLE: usize = 644;
 
-pub const LIST: usize = 128;
+pub(crate) const LIST: usize = 128;
 
-pub const ENTRY: usize = 132;
+pub(crate) const ENTRY: usize = 132;
 
 // Where the module lies, and what the platform says.
-pub const BASE: u64 = 0x7F00_0000;
+pub(crate) const BASE: u64 = 0x7F00_0000;
 
-pub const CAPACITY: u64 = 0x2_0000;
+pub(crate) const CAPACITY: u64 = 0x2_0000;
 
-pub const VERSION: u64 = 7;
+pub(crate) const VERSION: u64 = 7;
 
-pub fn platform_chipset() -> Chipset {
+pub(crate) fn platform_chipset() -> Chipset {
     Chipset {
         vendor: 0x8086,
         device: 0xB001,
@@ -26,7 +26,7 @@ pub fn platform_chipset() -> Chipset {
 }
 
 // Writes a number of `width` bytes at an offset, the lowest byte first, where it fits.
-pub fn put(m: &mut [u8], at: usize, width: usize, value: u64) {
+pub(crate) fn put(m: &mut [u8], at: usize, width: usize, value: u64) {
     if m.len() < width {
         return;
     }
@@ -52,7 +52,7 @@ fn put_uuid(m: &mut [u8], at: usize)
 }
 
 // The information table at an offset: UUID, type and length, list offset, OsSinitDataVer, MinMleHeaderVer, AcmVersion.
-pub fn put_table(m: &mut [u8], at: usize)
+pub(crate) fn put_table(m: &mut [u8], at: usize)
     requires { ⌜ at < 65536 ⌝ }
 {
     put_uuid(m, at);
@@ -64,7 +64,7 @@ pub fn put_table(m: &mut [u8], at: usize)
 }
 
 // An entry of the chipset list at an offset.
-pub fn put_entry(m: &mut [u8], at: usize, flags: u64, device: u64, revision: u64)
+pub(crate) fn put_entry(m: &mut [u8], at: usize, flags: u64, device: u64, revision: u64)
     requires { ⌜ at < 65536 ⌝ }
 {
     put(m, at, 4, flags);
@@ -92,7 +92,7 @@ fn put_gdt(m: &mut [u8]) {
 }
 
 // A module as long as the slice, without a scratch area, and with one entry in its chipset list.
-pub fn fill(m: &mut [u8]) {
+pub(crate) fn fill(m: &mut [u8]) {
     put_header(m);
     put_gdt(m);
     put_table(m, TABLE);
@@ -109,7 +109,7 @@ fn print_number(n: u64) {
 }
 
 // A line: the label and the answer.
-pub fn show(label: &[u8], answer: ModuleAnswer) {
+pub(crate) fn show(label: &[u8], answer: ModuleAnswer) {
     print(label);
     match answer {
         ModuleAnswer::Module(d) => {
@@ -131,7 +131,7 @@ pub fn show(label: &[u8], answer: ModuleAnswer) {
 }
 
 // A line for the bytes of a module.
-pub fn show_module(label: &[u8], m: &[u8]) {
+pub(crate) fn show_module(label: &[u8], m: &[u8]) {
     show(
         label,
         sinit::read(m, BASE, CAPACITY, platform_chipset(), VERSION),
@@ -139,7 +139,7 @@ pub fn show_module(label: &[u8], m: &[u8]) {
 }
 
 // A line for a module of 768 bytes with one field changed.
-pub fn one(label: &[u8], at: usize, width: usize, value: u64) {
+pub(crate) fn one(label: &[u8], at: usize, width: usize, value: u64) {
     let mut m = [0u8; 768];
     fill(&mut m);
     put(&mut m, at, width, value);
@@ -147,7 +147,7 @@ pub fn one(label: &[u8], at: usize, width: usize, value: u64) {
 }
 
 // A line for a module of 768 bytes with two fields of 4 bytes changed.
-pub fn two(label: &[u8], at: usize, value: u64, other: usize, other_value: u64) {
+pub(crate) fn two(label: &[u8], at: usize, value: u64, other: usize, other_value: u64) {
     let mut m = [0u8; 768];
     fill(&mut m);
     put(&mut m, at, 4, value);

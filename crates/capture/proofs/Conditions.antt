@@ -7,8 +7,8 @@ use native.Mathlib.Omega.{arith}
 use borrow.Author.Tests.{leb-true, le-leb, eqb-true, eq-eqb, not-true, not-false}
 use lib.ListN.{length, take, drop}
 use Rattle.field.proofs.Laws.{marked-at}
-use Rattle.range.specs.Rules.{all}
-use Rattle.range.proofs.Tests.{_&_, each}
+use Rattle.rules.specs.Rules.{all}
+use Rattle.rules.proofs.Tests.{_&_, each}
 use Rattle.launch.specs.declared.Platform.{Platform}
 use Rattle.launch.specs.declared.Answer.{Answer}
 use Rattle.launch.specs.Rules.{Input, inputOf}

@@ -7,7 +7,7 @@ use mathlib.Core.List.{List, [], _∷_}
 use lib.Dec.{leb, eqb}
 use lib.ListN.{length, take, drop}
 use Rattle.field.specs.Field.{numberAt, markedAt}
-use Rattle.range.specs.Rules.{all}
+use Rattle.rules.specs.Rules.{all}
 use Rattle.launch.specs.declared.Platform.{Platform}
 use Rattle.launch.specs.declared.Answer.{Answer}
 use Rattle.launch.specs.Rules.{Input}

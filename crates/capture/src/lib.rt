@@ -10,7 +10,7 @@ pub use text::page_line;
 ghost use mathlib.Core.Path.{_≡_};
 ghost use Prim.Native.Nat.{_<_, _≤_, _^_};
 ghost use lib.ListN.{length};
-ghost use Rattle.range.specs.Rules.{all};
+ghost use Rattle.rules.specs.Rules.{all};
 ghost use Rattle.field.specs.Field.{numberAt};
 ghost use Rattle.launch.specs.Answer.{refused};
 ghost use Rattle.capture.specs.Capture.{platformOf, offsetsOf, captureTests, notCapture, captureAnswer, capturePlaces};

@@ -1,15 +1,12 @@
 -- The tests of rules 23 to 26 and 28 say what the propositions of specs/Meaning.antt say.
-use mathlib.Core.Path.{_≡_, refl, sym}
-use mathlib.Core.Logic.{_↔_}
-use mathlib.Core.Bool.{Bool, true, false, not, _||_, true≢false}
+use mathlib.Core.Bool.{_||_}
 use borrow.Author.Tests.{leb-true, le-leb, eqb-true, eq-eqb}
 use Rattle.range.proofs.Ranges.{inside-bounds}
-use Rattle.range.proofs.Tests.{_&_, each}
+use Rattle.rules.proofs.Tests.{_&_, each, eqb-exactly, leb-exactly, or-exactly, where-holds}
 use Rattle.decision.specs.Record.{recordTests, policyType, LIST, ANY, bit, control, productionWorthy, versionReached}
 use Rattle.decision.specs.Lists.{filePlaced, hashOf, hashMatches}
 use Rattle.decision.specs.Meaning.{RecordExactly, WorthyExactly, ReachedExactly, PlacedExactly, HashExactly}
 use Rattle.decision.proofs.Marks.{same-exactly}
-use Rattle.decision.proofs.Choices.{eqb-exactly, leb-exactly, or-exactly}
 
 pub record-exactly : RecordExactly
 unfolding recordTests
@@ -25,11 +22,6 @@ record-exactly r =
           },
       λ h. each _ .1 (eq-eqb _ _ (h .size) & eq-eqb _ _ (h .version) & eq-eqb _ _ (h .algorithm) & type .1 (h .type) & tt),
     )
-
--- a test that is asked only where another holds
-where-holds : (a b : Bool) {P Q : Type 0} → (a ≡ true) ↔ P → (b ≡ true) ↔ Q → ((not a || b) ≡ true) ↔ (P → Q)
-where-holds true b p q = (λ e h. q .0 e, λ h. q .1 (h (p .0 refl)))
-where-holds false b p q = (λ e h. absurd (true≢false (sym (p .1 h))), λ h. refl)
 
 pub worthy-exactly : WorthyExactly
 unfolding productionWorthy

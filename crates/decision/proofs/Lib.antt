@@ -1,6 +1,5 @@
 -- The laws of the crate; other crates cite those that are public.
 -- Tests, and values of lists by their numbers.
-mod Choices
 mod Members
 mod Marks
 -- What the rules say.

@@ -8,7 +8,7 @@ use native.Mathlib.Omega.{arith}
 use lib.ListN.{length, take, drop, length-take, length-drop}
 use Rattle.field.specs.Field.{same, markedAt}
 use Rattle.field.proofs.Laws.{same-true, same-refl, marked-at}
-use Rattle.range.proofs.Tests.{agrees}
+use Rattle.rules.proofs.Tests.{agrees}
 
 pub same-exactly : (s t : List ℕ) → (same s t ≡ true) ↔ (s ≡ t)
 same-exactly s t = (same-true s t, λ e. rw e (same-refl t))

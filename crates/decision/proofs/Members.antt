@@ -9,7 +9,7 @@ use native.Mathlib.Omega.{arith}
 use lib.ListN.{length, getElem?}
 use Rattle.policy.specs.Grammar.{PolicyList}
 use Rattle.decision.specs.Lists.{every, any, noList, lowestFrom}
-use Rattle.decision.proofs.Choices.{or-exactly}
+use Rattle.rules.proofs.Tests.{or-exactly}
 
 module _ {A : Type 0} where
   nothing : (a : A) → none ≡ some a → ⊥

@@ -14,7 +14,7 @@ use Rattle.policy.specs.Grammar as Grammar
 use Rattle.decision.specs.Record.{sha256Alg}
 use Rattle.decision.specs.Lists.{listsOf, launchType, customType, unsigned, judged, launchNames, names, permits, somePermits, noList, lowestPermitting}
 use Rattle.decision.specs.Meaning.{Names, Permits, PermitsAt, SomePermits, Lowest, PermitsExactly, LowestExactly, BodyFree}
-use Rattle.decision.proofs.Choices.{eqb-exactly, leb-exactly, or-exactly, and-exactly}
+use Rattle.rules.proofs.Tests.{eqb-exactly, leb-exactly, or-exactly, and-exactly}
 use Rattle.decision.proofs.Members.{Member, every-exactly, any-exactly, Reported, Unreported, lowest-is}
 use Rattle.decision.proofs.Marks.{same-exactly}
 use Rattle.decision.proofs.Readings.{few}

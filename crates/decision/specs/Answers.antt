@@ -1,18 +1,17 @@
 -- What the functions of the crate answer.
-use Prim.Native.Nat.{ℕ, zero, suc}
+use Prim.Native.Nat.{ℕ}
 use mathlib.Core.Bool.{cond}
 use mathlib.Core.List.{List, [], _∷_}
 use lib.Dec.{eqb}
-use Rattle.range.specs.Rules.{Rule, rule, firstFailing}
+use Rattle.rules.specs.Rules.{Rule, rule, answerBy}
 use Rattle.decision.specs.declared.RecordAnswer.{RecordAnswer}
 use Rattle.decision.specs.declared.RecordAnswer.the-variants as answers
 use Rattle.decision.specs.Record.{policyType, LIST, recordRules}
 use Rattle.decision.specs.Lists.{ofGrammar, hashMatches}
 
--- the answer for a number: 0 gives the type of the policy, every other is a refusal
-unfoldable pub recordAnswer : ℕ → ℕ → RecordAnswer
-recordAnswer zero type = cond (eqb type LIST) answers.List answers.Any
-recordAnswer (suc n) type = answers.Refused (suc n)
+-- the kind of policy by its type
+abbrev pub kindOf : ℕ → RecordAnswer
+kindOf type = cond (eqb type LIST) answers.List answers.Any
 
 -- the number of an answer
 abbrev pub numberOf : RecordAnswer → ℕ
@@ -20,8 +19,9 @@ numberOf answers.Any = 0
 numberOf answers.List = 0
 numberOf (answers.Refused n) = n
 
+-- the kind of policy where the rules of the record hold, else the number of the first that fails
 unfoldable pub recordOf : List ℕ → ℕ → ℕ → RecordAnswer
-recordOf r flags acmVersion = recordAnswer (firstFailing (recordRules r flags acmVersion)) (policyType r)
+recordOf r flags acmVersion = answerBy answers.Refused (kindOf (policyType r)) (recordRules r flags acmVersion)
 
 -- rules 27 and 28
 abbrev pub fileRules : List ℕ → List ℕ → List Rule

@@ -7,7 +7,7 @@ use lib.Dec.{leb, eqb}
 use lib.ListN.{length, take, drop}
 use Rattle.field.specs.Field.{same}
 use Rattle.range.specs.Range.{insideOf}
-use Rattle.range.specs.Rules.{all}
+use Rattle.rules.specs.Rules.{all}
 use Rattle.sha256.specs.Message.{sha256}
 use Rattle.policy.specs.Grammar.{Body, Launch, Element, Signing, PolicyList, listBytes}
 use Rattle.policy.specs.Grammar as Grammar

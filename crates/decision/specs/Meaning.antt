@@ -8,8 +8,8 @@ use mathlib.Core.List.{List, [], _∷_, flatMap}
 use mathlib.Core.Option.{some}
 use lib.ListN.{length, getElem?}
 use Rattle.field.specs.Number.{Bytes}
-use Rattle.range.specs.Rules.{all}
-use Rattle.range.specs.Meaning.{Meaning, meaning, AllSay, FirstBroken}
+use Rattle.rules.specs.Rules.{all}
+use Rattle.rules.specs.Meaning.{Meaning, meaning, AllSay, FirstBroken}
 use Rattle.sha256.specs.Message.{sha256}
 use Rattle.policy.specs.Grammar.{Launch, Element, PolicyList, Reading, Makes}
 use Rattle.policy.specs.Grammar as Grammar

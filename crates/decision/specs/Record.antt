@@ -5,7 +5,7 @@ use mathlib.Core.List.{List, [], _∷_}
 use lib.Dec.{leb, eqb}
 use lib.ListN.{length, take, drop}
 use Rattle.field.specs.Field.{numberAt}
-use Rattle.range.specs.Rules.{Rule, rule, all}
+use Rattle.rules.specs.Rules.{Rule, rule, all}
 
 -- THE FIELDS. "Record, exactly 70 bytes: version 0 (16), high byte 3; HashAlg 2 (16) = 0x000B; type 4 (8): 0 LIST, 1 ANY; SINITMinVersion 5 (8);
 -- eight revocation counters 6 (16 each); control 22 (32); hash masks and others 26 to 37; PolicyHash 38 (32 bytes)."

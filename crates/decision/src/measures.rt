@@ -4,7 +4,7 @@ use policy::FileAnswer;
 use policy::ListAnswer;
 ghost use mathlib.Core.Path.{_≡_};
 ghost use mathlib.Core.Bool.{true};
-ghost use Rattle.range.specs.Rules.{firstFailing};
+ghost use Rattle.rules.specs.Rules.{firstFailing};
 ghost use Rattle.policy.specs.Demand3.{seenList};
 ghost use Rattle.decision.specs.Lists.{ofGrammar, listsOf, hashOf, hashMatches};
 ghost use Rattle.decision.specs.Answers.{fileRules};
@@ -55,7 +55,7 @@ pub fn file_fault(file: &[u8], r: &[u8]) -> u32
     ensures { λ n. ⌜ n ≡ firstFailing (fileRules (now (file .entry)) (now (r .entry))) ⌝ }
 {
     match policy::read(file) {
-        FileAnswer::Accepted { .. } => range::unless(hash_matches(file, r), 28, 0),
+        FileAnswer::Accepted { .. } => rules::unless(hash_matches(file, r), 28, 0),
         FileAnswer::WrongSize => 27,
         FileAnswer::NotOfGrammar => 27,
     }

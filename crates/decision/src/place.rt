@@ -1,7 +1,7 @@
 // Where the policy file stands in the window: rule 26.
 use range::Range;
 ghost use mathlib.Core.Path.{_≡_};
-ghost use Rattle.range.specs.Rules.{all};
+ghost use Rattle.rules.specs.Rules.{all};
 ghost use Rattle.decision.specs.Lists.{filePlaced, fileOf};
 
 const LEAST_FILE: u64 = 36;

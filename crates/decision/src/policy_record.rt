@@ -3,7 +3,7 @@ use crate::RecordAnswer;
 use crate::SHA256_ALG;
 use field::number_or_zero;
 ghost use mathlib.Core.Path.{_≡_};
-ghost use Rattle.range.specs.Rules.{all, firstFailing};
+ghost use Rattle.rules.specs.Rules.{all, firstFailing};
 ghost use Rattle.decision.specs.Record.{policyType, recordTests, productionWorthy, versionReached, recordRules};
 ghost use Rattle.decision.specs.Answers.{recordOf};
 
@@ -62,9 +62,9 @@ fn version_reached(acm: u64, r: &[u8]) -> bool
 fn fault(r: &[u8], flags: u64, acm: u64) -> u32
     ensures { λ n. ⌜ n ≡ firstFailing (recordRules (now (r .entry)) flags acm) ⌝ }
 {
-    let from25 = range::unless(version_reached(acm, r), 25, 0);
-    let from24 = range::unless(worthy(flags, r), 24, from25);
-    range::unless(record_holds(r), 23, from24)
+    let from25 = rules::unless(version_reached(acm, r), 25, 0);
+    let from24 = rules::unless(worthy(flags, r), 24, from25);
+    rules::unless(record_holds(r), 23, from24)
 }
 
 // The kind of policy of a record, for the flags of a module and its AcmVersion, `acm`.

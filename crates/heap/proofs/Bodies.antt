@@ -9,10 +9,11 @@ use native.Mathlib.Omega.{arith}
 use lib.Dec.{lit≤, eqb}
 use lib.ListN.{length, getD, take, drop, length-take, length-drop}
 use Rattle.field.specs.Field.{numberAt}
-use Rattle.heap.specs.Heap.{biosDataSize, osMleDataSize, osSinitDataAt, osSinitDataSize, partsFit, osSinitPart, afterSize, fieldsOf, typeAt, sizeAt, elementAt, endsWithin, elementsEnd, answerOf, heapFields, heapElements, heapOf}
+use Rattle.rules.specs.Rules.{answerFor}
+use Rattle.heap.specs.Heap.{biosDataSize, osMleDataSize, osSinitDataAt, osSinitDataSize, partsFit, osSinitPart, afterSize, fieldsOf, typeAt, sizeAt, elementAt, endsWithin, elementsEnd, heapFields, heapElements, heapOf}
 use Rattle.heap.specs.Meaning.{PartsFit, placeOf}
 use Rattle.heap.specs.Bodies.{elementPlace, Reached, Ignored, biosData, osMleData, skipped, afterEnd, afterParts, SameElsewhere, BodiesNeverMatter}
-use Rattle.heap.proofs.Bytes.{lt-or-le, drop-lengths, drop-same, take-same, field-same}
+use Rattle.field.proofs.Agreeing.{lt-or-le, drop-lengths, drop-same, take-same, field-same}
 use Rattle.heap.proofs.Sizes.{parts-exactly}
 use Rattle.heap.proofs.Elements.{and-same, cond-same, one-more}
 
@@ -153,7 +154,7 @@ module _ (s t : List ℕ) (other : SameElsewhere s t) where
     fit-same = rw (parts-same, part-lengths, fields-read, elements-read)
 
   unfit-same : partsFit s ≡ false → heapOf s ≡ heapOf t
-  unfolding heapOf answerOf
+  unfolding heapOf answerFor
   unfit-same e = rw (sym parts-same ∙ e, e)
 
 pub bodies-never-matter : BodiesNeverMatter

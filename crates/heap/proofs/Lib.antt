@@ -1,5 +1,4 @@
 -- The laws that other crates cite.
-pub mod Bytes
 pub mod Sizes
 pub mod Elements
 pub mod Meaning

@@ -7,7 +7,7 @@ use lib.ListN.{length, take, drop}
 use Rattle.field.specs.Field.{numberAt}
 use Rattle.range.specs.declared.Range.{Range}
 use Rattle.range.specs.Range.{endsBy}
-use Rattle.range.specs.Rules.{Rule, rule, firstFailing}
+use Rattle.rules.specs.Rules.{Rule, rule, answerBy}
 use Rattle.heap.specs.declared.OsSinitData.{OsSinitData}
 use Rattle.heap.specs.declared.HeapAnswer.{HeapAnswer}
 use Rattle.heap.specs.declared.HeapAnswer.the-variants.{OsSinit, Refused}
@@ -138,11 +138,6 @@ partRules part =
 abbrev pub heapRules : List ℕ → List Rule
 heapRules heap = rule 2 (partsFit heap) ∷ partRules (osSinitPart heap)
 
--- the case for each number: 0 has the fields of OsSinitData, any other number is that of a refusal
-unfoldable pub answerOf : ℕ → OsSinitData → HeapAnswer
-answerOf zero o = OsSinit o
-answerOf (suc n) o = Refused (suc n)
-
 -- the number of each case
 unfoldable pub numberOf : HeapAnswer → ℕ
 numberOf (OsSinit o) = 0
@@ -150,7 +145,7 @@ numberOf (Refused n) = n
 
 -- what rules 3 to 5 answer
 unfoldable pub partAnswer : List ℕ → HeapAnswer
-partAnswer part = answerOf (firstFailing (partRules part)) (fieldsOf (afterSize part))
+partAnswer part = answerBy Refused (OsSinit (fieldsOf (afterSize part))) (partRules part)
 
 -- the fields and the elements of the heap's OsSinitData
 abbrev pub heapFields : List ℕ → OsSinitData
@@ -159,5 +154,6 @@ heapFields heap = fieldsOf (afterSize (osSinitPart heap))
 abbrev pub heapElements : List ℕ → List ℕ
 heapElements heap = elementsOf (afterSize (osSinitPart heap))
 
+-- the fields where all rules hold, else the number of the first that fails
 unfoldable pub heapOf : List ℕ → HeapAnswer
-heapOf heap = answerOf (firstFailing (heapRules heap)) (heapFields heap)
+heapOf heap = answerBy Refused (OsSinit (heapFields heap)) (heapRules heap)

@@ -2,9 +2,10 @@
 use Prim.Native.Nat.{ℕ, zero, suc, _+_, _≤_, _<_}
 use mathlib.Core.Path.{_≡_}
 use mathlib.Core.Logic.{_↔_, _⊎_}
-use mathlib.Core.List.{List}
+use mathlib.Core.List.{List, [], _∷_}
 use lib.ListN.{length}
 use Rattle.range.specs.Range.{endOf}
+use Rattle.rules.specs.Meaning.{Meaning, meaning, FirstBroken}
 use Rattle.heap.specs.declared.OsSinitData.{OsSinitData}
 use Rattle.heap.specs.declared.HeapAnswer.the-variants.{OsSinit, Refused}
 use Rattle.heap.specs.Heap.{biosDataSize, osMleDataSize, osSinitDataAt, osSinitDataSize, leastSize, osSinitPart, leastPart, heapFields, heapElements, typeAt, sizeAt, lowPmr, highPmr, lowLimit, highLimit, heapOf}
@@ -49,25 +50,26 @@ pub record PmrsPlaced (o : OsSinitData) : Type 0 where
   pub low : 0 < lowPmr o .size → endOf (lowPmr o) ≤ lowLimit
   pub high : 0 < highPmr o .size → (lowLimit ≤ highPmr o .base) × (endOf (highPmr o) ≤ highLimit)
 
--- rules 2 to 5 hold, and o has the fields of OsSinitData
-pub record HeapHolds (heap : List ℕ) (o : OsSinitData) : Type 0 where
+-- every rule holds
+pub record HeapHolds (heap : List ℕ) : Type 0 where
   pub parts : PartsFit heap
   pub supported : Supported heap
   pub elements : ElementsEnd (heapElements heap)
   pub pmrs : PmrsPlaced (heapFields heap)
-  pub values : o ≡ heapFields heap
 
--- the rule of a number fails, and those before it hold
-pub data HeapFails (heap : List ℕ) : ℕ → Type 0 where
-  parts : (PartsFit heap → ⊥) → HeapFails heap 2
-  supported : PartsFit heap → (Supported heap → ⊥) → HeapFails heap 3
-  elements : PartsFit heap → Supported heap → (ElementsEnd (heapElements heap) → ⊥) → HeapFails heap 4
-  pmrs : PartsFit heap → Supported heap → ElementsEnd (heapElements heap) → (PmrsPlaced (heapFields heap) → ⊥) → HeapFails heap 5
+-- the rules in the order they are tried
+abbrev pub heapMeanings : List ℕ → List Meaning
+heapMeanings heap =
+    meaning 2 (PartsFit heap)
+    ∷ meaning 3 (Supported heap)
+    ∷ meaning 4 (ElementsEnd (heapElements heap))
+    ∷ meaning 5 (PmrsPlaced (heapFields heap))
+    ∷ []
 
 -- the answer is the fields of OsSinitData exactly where all rules hold
 abbrev pub AcceptedExactly : Type 0
-AcceptedExactly = (heap : List ℕ) (o : OsSinitData) → (heapOf heap ≡ OsSinit o) ↔ HeapHolds heap o
+AcceptedExactly = (heap : List ℕ) (o : OsSinitData) → (heapOf heap ≡ OsSinit o) ↔ (HeapHolds heap × (o ≡ heapFields heap))
 
--- the answer is a refusal exactly with the number of the first rule that fails
+-- a number is answered exactly where it is that of the first rule that is broken
 abbrev pub RefusedExactly : Type 0
-RefusedExactly = (heap : List ℕ) (n : ℕ) → (heapOf heap ≡ Refused n) ↔ HeapFails heap n
+RefusedExactly = (heap : List ℕ) (n : ℕ) → (heapOf heap ≡ Refused n) ↔ FirstBroken (heapMeanings heap) n

@@ -5,7 +5,7 @@ use mathlib.Core.Bool.{Bool, true, false, cond}
 use mathlib.Core.List.{List, _++_}
 use lib.Dec.{lit<}
 use lib.ListN.{length}
-use Rattle.range.specs.Rules.{all}
+use Rattle.rules.specs.Rules.{all}
 use Rattle.heap.specs.declared.HeapAnswer.{HeapAnswer}
 use Rattle.heap.specs.declared.HeapAnswer.the-variants.{OsSinit, Refused}
 use Rattle.heap.specs.Heap.{heapRules, heapFields, heapOf}

@@ -5,9 +5,9 @@ use mathlib.Core.Bool.{true}
 use mathlib.Core.List.{List}
 use Prim.Native.Nat.{ℕ}
 use borrow.Author.Tests.{leb-true, le-leb, eqb-true, eq-eqb}
-use Rattle.range.specs.Rules.{all}
+use Rattle.rules.specs.Rules.{all}
 use Rattle.range.proofs.Ranges.{ends-exactly}
-use Rattle.range.proofs.Tests.{_&_, each}
+use Rattle.rules.proofs.Tests.{_&_, each}
 use Rattle.launch.specs.declared.Platform.{Platform}
 use Rattle.launch.specs.Rules.{platformTests}
 use Rattle.launch.specs.Permitted.{PlatformHolds}

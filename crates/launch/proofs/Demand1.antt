@@ -7,8 +7,8 @@ use mathlib.Core.List.{List}
 use native.Mathlib.Omega.{arith}
 use borrow.Author.Tests.{eq-eqb, ne-eqb, eqb-true}
 use lib.Dec.{eqb}
-use Rattle.range.specs.Rules.{FirstFails}
-use Rattle.range.proofs.Rules.{first-exactly}
+use Rattle.rules.specs.Rules.{FirstFails}
+use Rattle.rules.proofs.Rules.{first-exactly}
 use Rattle.mle.specs.Image.{pageList}
 use Rattle.launch.specs.declared.Answer.{Answer}
 use Rattle.launch.specs.Rules.{Input, image, rules}

@@ -5,8 +5,8 @@ use mathlib.Core.Path.{_≡_}
 use mathlib.Core.List.{List}
 use lib.Dec.{lit<}
 use lib.ListN.{length}
-use Rattle.range.specs.Rules.{Rule, firstFailing, Numbered}
-use Rattle.range.proofs.Tests.{_&_}
+use Rattle.rules.specs.Rules.{Rule, firstFailing, Numbered}
+use Rattle.rules.proofs.Tests.{_&_}
 use Rattle.heap.specs.declared.OsSinitData.{OsSinitData}
 use Rattle.heap.specs.declared.HeapAnswer.the-variants as heap
 use Rattle.heap.specs.Heap.{heapRules, heapFields, heapOf}
@@ -39,14 +39,14 @@ module _ (w h s policy : List ℕ) (p : Platform) (places : ℕ) where
   permission = whole w h s policy p places
 
   pub heap-refuses : (n : ℕ) → heapOf h ≡ heap.Refused n → refusal n ≡ heapStage w h s policy p places
-  unfolding heapOf heapStage
-  heap-refuses n e = let r = heap-laws.refuses _ _ _ .0 e in group-refuses (heapRules h) later permission n (r .1) (r .0)
+  unfolding heapStage
+  heap-refuses n e = let r = heap-laws.refusal-exactly h n .0 e in group-refuses (heapRules h) later permission n (r .0) (r .1)
 
   pub heap-passes : (o : OsSinitData) (m : Memory) → m ≡ memoryFrom (length h) (length s) p o → heapOf h ≡ heap.OsSinit o
       → moduleStage w s policy o m p places ≡ heapStage w h s policy p places
-  unfolding heapOf heapStage moduleStage
+  unfolding heapStage moduleStage
   heap-passes o m is-memory e =
-      let r = heap-laws.accepts _ _ _ .0 e in
+      let r = heap-laws.fields-exactly h o .0 e in
       rw (is-memory, r .1) (group-passes (heapRules h) later permission (heap-numbered h) (r .0))
 
 -- RULES 6 TO 11
@@ -63,13 +63,13 @@ module _ (w s policy : List ℕ) (o : OsSinitData) (memory : Memory) (p : Platfo
 
   pub module-refuses : (n : ℕ) → sinit.moduleOf s (p .«sinit_base») (p .«acram_capacity») (chipsetOf p) (o .version) ≡ modules.Refused n
       → refusal n ≡ moduleStage w s policy o memory p places
-  unfolding sinit.moduleOf moduleStage
-  module-refuses n e = let r = sinit-laws.number-exactly (firstFailing rules) values n .0 e in group-refuses rules (sizesOn w policy o values memory places) (permits w policy o values (imageFound w memory o)) n (r .0) (r .1)
+  unfolding moduleStage
+  module-refuses n e = let r = sinit-laws.refusal-exactly _ _ _ _ _ n .0 e in group-refuses rules (sizesOn w policy o values memory places) (permits w policy o values (imageFound w memory o)) n (r .0) (r .1)
 
   pub module-passes : (m : ModuleData) → sinit.moduleOf s (p .«sinit_base») (p .«acram_capacity») (chipsetOf p) (o .version) ≡ modules.Module m
       → sizeStage w policy o m memory places ≡ moduleStage w s policy o memory p places
-  unfolding sinit.moduleOf moduleStage sizeStage
-  module-passes m e = let r = sinit-laws.values-exactly (firstFailing rules) values m .0 e in rw (r .1) (group-passes rules (sizesOn w policy o values memory places) (permits w policy o values (imageFound w memory o)) module-numbered (r .0))
+  unfolding moduleStage sizeStage
+  module-passes m e = let r = sinit-laws.values-exactly _ _ _ _ _ m .0 e in rw (r .1) (group-passes rules (sizesOn w policy o values memory places) (permits w policy o values (imageFound w memory o)) module-numbered (r .0))
 
 -- RULES 14 TO 20
 

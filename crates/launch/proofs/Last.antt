@@ -7,9 +7,9 @@ use native.Mathlib.Omega.{arith}
 use borrow.Author.Tests.{eqb-true}
 use lib.Dec.{lit<, lit≤, eqb}
 use Rattle.range.specs.declared.Range.{Range}
-use Rattle.range.specs.Rules.{Rule, rule, all, firstFailing}
-use Rattle.range.proofs.Rules.{AtMost, at-most-append, from-later}
-use Rattle.range.proofs.Tests.{_&_}
+use Rattle.rules.specs.Rules.{Rule, rule, all, firstFailing}
+use Rattle.rules.proofs.Rules.{AtMost, at-most-append, from-later}
+use Rattle.rules.proofs.Tests.{_&_}
 use Rattle.heap.specs.Heap.{heapRules}
 use Rattle.sinit.specs.Rules as sinit
 use Rattle.pages.specs.declared.Kind.{Kind}

@@ -4,10 +4,11 @@ use mathlib.Core.Path.{_≡_, refl, sym, _∙_}
 use mathlib.Core.Bool.{Bool, true, false, cond, true≢false}
 use mathlib.Core.List.{List, [], _∷_, _++_}
 use native.Mathlib.Omega.{arith}
+use borrow.Author.Tests.{eq-eqb, ne-eqb}
 use lib.Dec.{lit<, eqb}
 use Rattle.field.specs.Number.{Bytes}
-use Rattle.range.specs.Rules.{Rule, rule, all, firstFailing, Numbered}
-use Rattle.range.proofs.Tests.{_&_, fails}
+use Rattle.rules.specs.Rules.{Rule, rule, all, firstFailing, Numbered}
+use Rattle.rules.proofs.Tests.{_&_, fails}
 use Rattle.heap.specs.declared.OsSinitData.{OsSinitData}
 use Rattle.sinit.specs.declared.ModuleData.{ModuleData}
 use Rattle.mle.specs.declared.Image.{Image}
@@ -15,7 +16,8 @@ use Rattle.mle.specs.Image.{imageDigest}
 use Rattle.decision.specs.declared.RecordAnswer.the-variants as records
 use Rattle.decision.specs.Record.{policyType, LIST, recordRules}
 use Rattle.decision.specs.Lists.{filePlaced, somePermits, noList, lowestPermitting}
-use Rattle.decision.specs.Answers.{recordAnswer, recordOf, fileRules}
+use Rattle.decision.specs.Answers.{recordOf, fileRules}
+use Rattle.decision.proofs.RecordAnswers.{list-exactly, any-exactly, refusal-exactly}
 use Rattle.decision.proofs.Permission.{permits-exactly, lowest-exactly}
 use Rattle.launch.specs.declared.Verdict.{Verdict}
 use Rattle.launch.specs.Rules.{policyFile, listRules}
@@ -102,50 +104,22 @@ module _ (w policy : List ℕ) (o : OsSinitData) (m : ModuleData) (image : Image
   record-numbered : Numbered rules
   record-numbered = lit< tt & lit< tt & lit< tt & tt
 
-  -- the answer by the number and the type
-  by-list : (k type : ℕ) → recordAnswer k type ≡ records.List → (k ≡ 0) × (eqb type LIST ≡ true)
-  unfolding recordAnswer
-  by-list zero type e = (refl, by (eqb type LIST) e)
-    where
-      by : (t : Bool) → cond t records.List records.Any ≡ records.List → t ≡ true
-      by true h = refl
-      by false h = let z : _≡_ {A = ℕ} 0 1 = cc in absurd (omega arith)
-  by-list (suc k) type e = let z : _≡_ {A = ℕ} 0 1 = cc in absurd (omega arith)
-
-  by-any : (k type : ℕ) → recordAnswer k type ≡ records.Any → (k ≡ 0) × (eqb type LIST ≡ false)
-  unfolding recordAnswer
-  by-any zero type e = (refl, by (eqb type LIST) e)
-    where
-      by : (t : Bool) → cond t records.List records.Any ≡ records.Any → t ≡ false
-      by true h = let z : _≡_ {A = ℕ} 0 1 = cc in absurd (omega arith)
-      by false h = refl
-  by-any (suc k) type e = let z : _≡_ {A = ℕ} 0 1 = cc in absurd (omega arith)
-
-  by-refused : (k type n : ℕ) → recordAnswer k type ≡ records.Refused n → (0 < n) × (k ≡ n)
-  unfolding recordAnswer
-  by-refused zero type n e = by (eqb type LIST) e
-    where
-      by : (t : Bool) → cond t records.List records.Any ≡ records.Refused n → (0 < n) × (0 ≡ n)
-      by true h = let z : _≡_ {A = ℕ} 0 1 = cc in absurd (omega arith)
-      by false h = let z : _≡_ {A = ℕ} 0 1 = cc in absurd (omega arith)
-  by-refused (suc k) type n e = let h : suc k ≡ n = cc in (omega arith, h)
-
   pub record-refuses : (n : ℕ) → recordOf policy (m .flags) (m .«acm_version») ≡ records.Refused n → refusal n ≡ recordStage w policy o m image
-  unfolding recordOf recordStage
+  unfolding recordStage
   record-refuses n e =
-      let r = by-refused (firstFailing rules) (policyType policy) n e in
+      let r = refusal-exactly policy _ _ n .0 e in
       Left.group-refuses rules (listRules w image policy o m) (permits w policy o m image) n (r .0) (r .1)
 
   pub record-any : recordOf policy (m .flags) (m .«acm_version») ≡ records.Any → permission w image noList ≡ recordStage w policy o m image
-  unfolding recordOf recordStage
+  unfolding recordStage
   record-any e =
-      let r = by-any (firstFailing rules) (policyType policy) e in
-      rw (r .1) (Left.permits [] (permission w image noList) refl)
+      let r = any-exactly policy _ _ .0 e in
+      rw (ne-eqb (policyType policy) LIST (r .1)) (Left.permits [] (permission w image noList) refl)
       ∙ Left.group-passes rules (listRules w image policy o m) (permits w policy o m image) record-numbered (r .0)
 
   pub record-list : recordOf policy (m .flags) (m .«acm_version») ≡ records.List → listStage w policy o m image ≡ recordStage w policy o m image
-  unfolding recordOf recordStage listStage
+  unfolding recordStage listStage
   record-list e =
-      let r = by-list (firstFailing rules) (policyType policy) e in
-      rw (r .1) refl
+      let r = list-exactly policy _ _ .0 e in
+      rw (eq-eqb (policyType policy) LIST (r .1)) refl
       ∙ Left.group-passes rules (listRules w image policy o m) (permits w policy o m image) record-numbered (r .0)

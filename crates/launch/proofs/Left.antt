@@ -5,8 +5,8 @@ use mathlib.Core.Bool.{Bool, true, false}
 use mathlib.Core.List.{List, _∷_, _++_}
 use native.Mathlib.Omega.{arith}
 use borrow.Author.Tests.{ne-eqb}
-use Rattle.range.specs.Rules.{Rule, rule, firstFailing, Numbered}
-use Rattle.range.proofs.Rules.{all-exactly, passed, stopped}
+use Rattle.rules.specs.Rules.{Rule, rule, firstFailing, Numbered}
+use Rattle.rules.proofs.Rules.{all-exactly, passed, stopped}
 use Rattle.launch.specs.declared.Verdict.{Verdict}
 use Rattle.launch.specs.Inner.{refusal, decided}
 

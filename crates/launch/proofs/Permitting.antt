@@ -10,9 +10,9 @@ use lib.Dec.{lit<, eqb}
 use lib.ListN.{length, take, drop, length-take}
 use Rattle.field.specs.Number.{Bytes}
 use Rattle.field.proofs.Laws.{bytes-drop, bytes-take}
-use Rattle.range.specs.Rules.{Rule, all, firstFailing, Numbered}
-use Rattle.range.proofs.Rules.{joined-exactly, rule-exactly}
-use Rattle.range.proofs.Tests.{_&_}
+use Rattle.rules.specs.Rules.{Rule, all, firstFailing, Numbered}
+use Rattle.rules.proofs.Rules.{joined-exactly, rule-exactly}
+use Rattle.rules.proofs.Tests.{_&_}
 use Rattle.heap.specs.Heap.{heapRules, heapFields, heapOf}
 use Rattle.heap.specs.Meaning.{HeapHolds}
 use Rattle.heap.proofs.Meaning as heap
@@ -41,25 +41,10 @@ use Rattle.launch.specs.Permitted.{PlatformHolds, N, pagesFrom, file, Li
 use Rattle.launch.proofs.Groups.{heap-numbered}
 use Rattle.launch.proofs.Conditions.{platform-exactly}
 
--- 2 to 5
-pub heap-exactly : (h : List ℕ) → (firstFailing (heapRules h) ≡ 0) ↔ HeapHolds h (heapFields h)
-unfolding heapOf
-heap-exactly h =
-    let answer = heap.accepts (firstFailing (heapRules h)) (heapFields h) (heapFields h) in
-    let meaning = heap.accepted-exactly h (heapFields h) in
-    (λ e. meaning .0 (answer .1 (e, refl)), λ m. answer .0 (meaning .1 m) .0)
-
 -- 6 to 11
 module _ (s : List ℕ) (p : Platform) (version : ℕ) where
   abbrev moduleRules : List Rule
   moduleRules = sinit.rules s (p .«sinit_base») (p .«acram_capacity») (chipsetOf p) version
-
-  pub module-exactly : (firstFailing moduleRules ≡ 0) ↔ ModuleHolds s (p .«sinit_base») (p .«acram_capacity») (chipsetOf p) version
-  unfolding sinit.moduleOf
-  module-exactly =
-      let answer = modules.values-exactly (firstFailing moduleRules) (sinit.valuesOf s) (sinit.valuesOf s) in
-      let meaning = modules.permitted-exactly s (p .«sinit_base») (p .«acram_capacity») (chipsetOf p) version (sinit.valuesOf s) in
-      (λ e. meaning .0 (answer .1 (e, refl)) .0, λ m. answer .0 (meaning .1 (m, refl)) .0)
 
 -- 14 to 20
 module _ (w : List ℕ) (m : Memory) (t : ℕ) where
@@ -92,7 +77,7 @@ module _ (i : Input) where
   -- what each rule up to the walk says
   pub record Early : Type 0 where
     pub platform : PlatformHolds w (i .heap) p
-    pub heap : HeapHolds (i .heap) (os i)
+    pub heap : HeapHolds (i .heap)
     pub sinit : ModuleHolds (i .sinit) (p .«sinit_base») (p .«acram_capacity») (chipsetOf p) (os i .version)
     pub size : mle.Size (os i .«mle_size»)
     pub room : N i ≤ i .places
@@ -117,8 +102,8 @@ module _ (i : Input) where
         let thirteen = rule-exactly 13 _ _ (lit< tt) .0 (twelve .1) in (
           record {
             platform = platform-exactly _ _ _ .0 (one .0);
-            heap = heap-exactly (i .heap) .0 (two .0);
-            sinit = module-exactly (i .sinit) p (os i .version) .0 (six .0);
+            heap = heap.all-hold (i .heap) .0 (two .0);
+            sinit = modules.all-hold (i .sinit) _ _ (chipsetOf p) (os i .version) .0 (six .0);
             size = size-exactly _ .0 (twelve .0);
             room = leb-true _ _ (thirteen .0);
           },
@@ -128,9 +113,9 @@ module _ (i : Input) where
         rule-exactly 1 _ _ (lit< tt) .1 (
           platform-exactly _ _ _ .1 (h .0 .platform),
           joined-exactly (heapRules (i .heap)) afterHeap (heap-numbered (i .heap)) .1 (
-            heap-exactly (i .heap) .1 (h .0 .heap),
+            heap.all-hold (i .heap) .1 (h .0 .heap),
             joined-exactly (moduleRules (i .sinit) p (os i .version)) afterModule module-numbered .1 (
-              module-exactly (i .sinit) p (os i .version) .1 (h .0 .sinit),
+              modules.all-hold (i .sinit) _ _ (chipsetOf p) (os i .version) .1 (h .0 .sinit),
               rule-exactly 12 _ _ (lit< tt) .1 (
                 size-exactly _ .1 (h .0 .size),
                 rule-exactly 13 _ _ (lit< tt) .1
@@ -288,7 +273,7 @@ module _ (i : Input) where
       early-exactly .1 (
         record {
           platform = h .platform;
-          heap = record { parts = h .parts; supported = h .supported; elements = h .elements; pmrs = h .pmrs; values = refl };
+          heap = record { parts = h .parts; supported = h .supported; elements = h .elements; pmrs = h .pmrs };
           sinit =
               record {
                 place = h .place;

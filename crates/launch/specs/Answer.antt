@@ -4,7 +4,7 @@ use mathlib.Core.Bool.{cond}
 use mathlib.Core.List.{List}
 use lib.Dec.{eqb}
 use lib.ListN.{replicate}
-use Rattle.range.specs.Rules.{firstFailing}
+use Rattle.rules.specs.Rules.{firstFailing}
 use Rattle.heap.specs.declared.OsSinitData.{OsSinitData}
 use Rattle.sinit.specs.declared.ModuleData.{ModuleData}
 use Rattle.mle.specs.declared.Image.{Image}

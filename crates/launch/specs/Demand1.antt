@@ -5,7 +5,7 @@ use mathlib.Core.Path.{_≡_}
 use mathlib.Core.Logic.{_↔_, _≢_}
 use mathlib.Core.List.{List}
 use lib.ListN.{replicate}
-use Rattle.range.specs.Rules.{FirstFails}
+use Rattle.rules.specs.Rules.{FirstFails}
 use Rattle.decision.specs.Lists.{noList}
 use Rattle.launch.specs.Rules.{Input, rules}
 use Rattle.launch.specs.Answer.{answerOf, placesOf}

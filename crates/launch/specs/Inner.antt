@@ -4,7 +4,7 @@ use mathlib.Core.Bool.{cond}
 use mathlib.Core.List.{List, [], _∷_, _++_}
 use lib.Dec.{eqb}
 use lib.ListN.{length, replicate}
-use Rattle.range.specs.Rules.{Rule, rule, all, firstFailing}
+use Rattle.rules.specs.Rules.{Rule, rule, all, firstFailing}
 use Rattle.heap.specs.declared.OsSinitData.{OsSinitData}
 use Rattle.heap.specs.Heap.{heapRules, heapFields}
 use Rattle.sinit.specs.declared.ModuleData.{ModuleData}

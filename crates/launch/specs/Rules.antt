@@ -6,7 +6,7 @@ use lib.Dec.{leb, eqb}
 use lib.ListN.{length}
 use Rattle.range.specs.declared.Range.{Range}
 use Rattle.range.specs.Range.{endsBy}
-use Rattle.range.specs.Rules.{Rule, rule, all}
+use Rattle.rules.specs.Rules.{Rule, rule, all}
 use Rattle.heap.specs.declared.OsSinitData.{OsSinitData}
 use Rattle.heap.specs.Heap.{heapRules, heapFields, lowPmr, highPmr}
 use Rattle.sinit.specs.declared.Chipset.{Chipset}

@@ -13,7 +13,7 @@ use sinit::Chipset;
 use sinit::ModuleAnswer;
 use sinit::ModuleData;
 ghost use mathlib.Core.Path.{_≡_};
-ghost use Rattle.range.specs.Rules.{all};
+ghost use Rattle.rules.specs.Rules.{all};
 ghost use Rattle.range.specs.Range.{endsBy};
 ghost use Rattle.launch.specs.Rules.{highestEnd, platformTests, memoryFrom};
 ghost use Rattle.launch.specs.Inner.{imageStage, walkStage, sizeStage, moduleStage, heapStage, platformStage};

@@ -8,8 +8,8 @@ use native.Mathlib.Omega.{arith}
 use borrow.Author.Tests.{leb-true, le-leb, ltb-true, lt-ltb, eqb-true, eq-eqb}
 use lib.ListN.{length, length-take}
 use Rattle.field.proofs.Laws.{marked-at}
-use Rattle.range.specs.Rules.{all}
-use Rattle.range.proofs.Tests.{_&_, each}
+use Rattle.rules.specs.Rules.{all}
+use Rattle.rules.proofs.Tests.{_&_, each}
 use Rattle.mle.specs.declared.Image.{Image}
 use Rattle.mle.specs.Header.{sizeTests, mapped, placeTests, uuid, fieldTests, headerTests}
 use Rattle.mle.specs.Meaning.{Mapped, Place, Fields, SizeExactly, HeaderExactly}

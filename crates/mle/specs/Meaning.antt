@@ -5,7 +5,7 @@ use mathlib.Core.Logic.{_↔_}
 use mathlib.Core.Bool.{true}
 use mathlib.Core.List.{List}
 use lib.ListN.{length, take}
-use Rattle.range.specs.Rules.{all}
+use Rattle.rules.specs.Rules.{all}
 use Rattle.pages.specs.Memory.{pageSize}
 use Rattle.mle.specs.declared.Image.{Image}
 use Rattle.mle.specs.Header.{mostPages, pagesOf, sizeTests, headerSize, lastOffset, offset, headerBytes, mappedFrom, mappedTo}

@@ -6,7 +6,7 @@ use crate::linear::page_bytes;
 use field::marked;
 use field::number_or_zero;
 ghost use mathlib.Core.Path.{_≡_};
-ghost use Rattle.range.specs.Rules.{all};
+ghost use Rattle.rules.specs.Rules.{all};
 ghost use Rattle.mle.specs.Header.{sizeTests, mapped, placeTests, fieldTests, headerTests};
 
 const MOST_PAGES: u64 = 4096;

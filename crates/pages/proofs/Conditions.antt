@@ -8,7 +8,7 @@ use borrow.Author.Tests.{ltb-true, lt-ltb, eqb-true, eq-eqb}
 use lib.Dec.{lit<}
 use Rattle.range.specs.declared.Range.{Range}
 use Rattle.range.specs.Range.{insideOf, clearOf}
-use Rattle.range.specs.Rules.{Rule, AllHold}
+use Rattle.rules.specs.Rules.{Rule, AllHold}
 use Rattle.range.proofs.Ranges.{inside-exactly, clear-exactly}
 use Rattle.pages.specs.declared.Kind.{Kind}
 use Rattle.pages.specs.declared.Memory.{Memory}

@@ -5,7 +5,7 @@ use mathlib.Core.Bool.{Bool, true, false, cond}
 use mathlib.Core.List.{List, [], _∷_, _++_}
 use native.Mathlib.Omega.{arith}
 use Rattle.range.specs.declared.Range.{Range}
-use Rattle.range.specs.Rules.{AllHold}
+use Rattle.rules.specs.Rules.{AllHold}
 use Rattle.pages.specs.declared.Kind.{Kind}
 use Rattle.pages.specs.declared.Memory.{Memory}
 use Rattle.pages.specs.declared.levels.State.{State}

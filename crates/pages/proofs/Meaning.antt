@@ -7,8 +7,8 @@ use mathlib.Core.List.{List}
 use native.Mathlib.Omega.{arith}
 use borrow.Author.Tests.{ltb-true, ltb-false}
 use lib.Dec.{ltb}
-use Rattle.range.specs.Rules.{firstFailing}
-use Rattle.range.proofs.Rules.{all-exactly, first-exactly}
+use Rattle.rules.specs.Rules.{firstFailing}
+use Rattle.rules.proofs.Rules.{all-exactly, first-exactly}
 use Rattle.pages.specs.declared.Kind.{Kind}
 use Rattle.pages.specs.declared.Kind.the-variants.{Pointer, Directory, Page}
 use Rattle.pages.specs.declared.Memory.{Memory}

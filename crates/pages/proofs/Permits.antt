@@ -7,7 +7,7 @@ use mathlib.Core.List.{List}
 use native.Mathlib.Omega.{arith}
 use borrow.Author.Tests.{lt-ltb, leb-true, leb-false, eq-eqb, ne-eqb}
 use lib.Dec.{leb, eqb}
-use Rattle.range.specs.Rules.{AllHold}
+use Rattle.rules.specs.Rules.{AllHold}
 use Rattle.pages.specs.declared.Kind.{Kind}
 use Rattle.pages.specs.declared.Kind.the-variants.{Pointer, Directory, Page}
 use Rattle.pages.specs.declared.Memory.{Memory}

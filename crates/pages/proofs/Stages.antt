@@ -3,7 +3,7 @@ use Prim.Native.Nat.{ℕ}
 use mathlib.Core.Path.{_≡_, _∙_}
 use mathlib.Core.Logic.{_↔_}
 use mathlib.Core.List.{List, _++_}
-use Rattle.range.specs.Rules.{AllHold}
+use Rattle.rules.specs.Rules.{AllHold}
 use Rattle.pages.specs.declared.Kind.{Kind}
 use Rattle.pages.specs.declared.Kind.the-variants.{Pointer, Directory, Page}
 use Rattle.pages.specs.declared.Memory.{Memory}

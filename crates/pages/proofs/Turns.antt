@@ -7,8 +7,8 @@ use native.Mathlib.Omega.{arith}
 use borrow.Author.Tests.{ltb-true}
 use lib.Dec.{lit<}
 use Rattle.range.specs.declared.Range.{Range}
-use Rattle.range.specs.Rules.{Rule, firstFailing, AllHold, Numbered}
-use Rattle.range.proofs.Rules.{all-exactly, numbered-append}
+use Rattle.rules.specs.Rules.{Rule, firstFailing, AllHold, Numbered}
+use Rattle.rules.proofs.Rules.{all-exactly, numbered-append}
 use Rattle.pages.specs.declared.Kind.{Kind}
 use Rattle.pages.specs.declared.Kind.the-variants.{Pointer, Directory, Page}
 use Rattle.pages.specs.declared.Memory.{Memory}

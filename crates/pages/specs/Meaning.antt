@@ -6,7 +6,7 @@ use mathlib.Core.Bool.{true, cond}
 use mathlib.Core.List.{List, [], _∷_}
 use Rattle.range.specs.declared.Range.{Range}
 use Rattle.range.specs.Range.{Has}
-use Rattle.range.specs.Rules.{FirstFails}
+use Rattle.rules.specs.Rules.{FirstFails}
 use Rattle.pages.specs.declared.Memory.{Memory}
 use Rattle.pages.specs.declared.Kind.{Kind}
 use Rattle.pages.specs.declared.Kind.the-variants.{Pointer, Directory, Page}

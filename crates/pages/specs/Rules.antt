@@ -5,7 +5,7 @@ use mathlib.Core.List.{List, [], _∷_, _++_}
 use lib.Dec.{ltb, eqb}
 use Rattle.range.specs.declared.Range.{Range}
 use Rattle.range.specs.Range.{insideOf}
-use Rattle.range.specs.Rules.{Rule, rule, firstFailing}
+use Rattle.rules.specs.Rules.{Rule, rule, firstFailing}
 use Rattle.pages.specs.declared.Kind.{Kind}
 use Rattle.pages.specs.declared.Kind.the-variants.{Pointer, Directory, Page}
 use Rattle.pages.specs.declared.Memory.{Memory}

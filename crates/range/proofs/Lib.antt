@@ -1,5 +1,2 @@
 -- The laws that other crates cite.
 pub mod Ranges
-pub mod Rules
-pub mod Tests
-pub mod Meaning

@@ -1,4 +1,2 @@
--- What the contracts of the crate say, rules in order, and what rules mean.
+-- What the contracts of the crate say.
 pub mod Range
-pub mod Rules
-pub mod Meaning

@@ -1,6 +1,5 @@
-// Ranges of physical memory, and the number of the first rule that fails.
+// Ranges of physical memory.
 ghost use mathlib.Core.Path.{_≡_};
-ghost use mathlib.Core.Bool.{cond};
 ghost use Rattle.range.specs.Range.{insideOf, clearOf, endsBy};
 
 // `size` bytes from `base` on.
@@ -47,11 +46,4 @@ pub fn ends_by(a: Range, limit: u64) -> bool
         return false;
     }
     a.base <= limit - a.size
-}
-
-// The number of a rule that fails, or what the later rules give where it holds.
-pub fn unless(holds: bool, number: u32, later: u32) -> u32
-    ensures { λ r. ⌜ r ≡ cond holds later number ⌝ }
-{
-    if holds { later } else { number }
 }

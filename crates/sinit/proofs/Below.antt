@@ -1,10 +1,11 @@
 -- A test of some number below a bound.
 use Prim.Native.Nat.{ℕ, zero, suc, _<_}
-use mathlib.Core.Path.{_≡_, refl, sym}
-use mathlib.Core.Logic.{_⊎_, inl, inr, ⊎-elim}
-use mathlib.Core.Bool.{Bool, true, false, _||_, true≢false, or-true}
+use mathlib.Core.Path.{_≡_, sym}
+use mathlib.Core.Logic.{⊎-elim}
+use mathlib.Core.Bool.{Bool, true, true≢false, or-true}
 use native.Mathlib.Nat.{eq-or-lt-of-le}
 use native.Mathlib.Omega.{arith}
+use Rattle.rules.proofs.Tests.{either}
 use Rattle.sinit.specs.Rules.{someBelow}
 
 -- some number below n passes a test
@@ -12,10 +13,6 @@ pub record Found (p : ℕ → Bool) (n : ℕ) : Type 0 where
   pub index : ℕ
   pub below : index < n
   pub passes : p index ≡ true
-
-either : (a b : Bool) → (a || b) ≡ true → (a ≡ true) ⊎ (b ≡ true)
-either true b e = inl refl
-either false b e = inr e
 
 pub found : (p : ℕ → Bool) (n : ℕ) → someBelow p n ≡ true → Found p n
 unfolding someBelow

@@ -13,10 +13,10 @@ use Rattle.field.proofs.Laws.{marked-at}
 use Rattle.range.proofs.Ranges.{inside-bounds, ends-exactly}
 use Rattle.sinit.specs.declared.Chipset.{Chipset}
 use Rattle.sinit.specs.Module.{chipsetList, countSize, count, entrySize, entryAt}
-use Rattle.range.specs.Rules.{all}
+use Rattle.rules.specs.Rules.{all}
 use Rattle.sinit.specs.Rules.{inside, place, header, gdt, entry, selector, table, list, revisionMatches, match, listed}
 use Rattle.sinit.specs.Meaning.{Place, Header, Gdt, Entry, Selector, Table, ChipsetList, Matches, Listed}
-use Rattle.range.proofs.Tests.{_&_, each}
+use Rattle.rules.proofs.Tests.{_&_, each}
 use Rattle.sinit.proofs.Below.{found, finds}
 
 pub inside-exactly : (m : List ℕ) (at n : ℕ) → (inside m at n ≡ true) ↔ (at + n ≤ length m)

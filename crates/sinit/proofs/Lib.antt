@@ -3,4 +3,3 @@ pub mod Conditions
 pub mod Meaning
 mod Below
 mod Editions
-mod Faults

@@ -1,45 +1,29 @@
 -- The answer gives the values exactly where every rule holds, and a number exactly where it is that of the first rule that is broken.
-use Prim.Native.Nat.{ℕ, zero, suc, _<_}
+use Prim.Native.Nat.{ℕ, _<_}
 use mathlib.Core.Path.{_≡_, refl, sym}
 use mathlib.Core.Logic.{_↔_}
 use mathlib.Core.Bool.{true}
 use mathlib.Core.List.{List}
 use native.Mathlib.Omega.{arith}
 use borrow.Author.Tests.{leb-true, le-leb}
-use lib.Dec.{lit<, eqb·suc-zero}
-use Rattle.range.specs.Rules.{rule, firstFailing}
-use Rattle.range.specs.Meaning.{AllSay}
-use Rattle.range.proofs.Rules.{all-exactly}
-use Rattle.range.proofs.Tests.{_&_}
-use Rattle.range.proofs.Meaning.{Agree, agrees, numbered, all-say, broken-number, broken-exactly}
+use lib.Dec.{lit<}
+use Rattle.rules.specs.Rules.{Rule, firstFailing}
+use Rattle.rules.specs.Meaning.{Meaning, AllSay}
+use Rattle.rules.proofs.Tests.{_&_}
+use Rattle.rules.proofs.Meaning.{Agree, agrees}
+use Rattle.rules.proofs.Answers.{number-of, value-exactly, number-exactly, all-mean, number-means}
 use Rattle.sinit.specs.declared.Chipset.{Chipset}
 use Rattle.sinit.specs.declared.ModuleData.{ModuleData}
 use Rattle.sinit.specs.declared.ModuleAnswer.the-variants.{Module, Refused}
-use Rattle.sinit.specs.Rules.{supported, rules, valuesOf, answerOf, moduleOf, numberOf}
+use Rattle.sinit.specs.Rules.{supported, rules, valuesOf, moduleOf, numberOf}
 use Rattle.sinit.specs.Meaning.{Supported, ModuleHolds, meanings, PermittedExactly, RefusedExactly}
 use Rattle.sinit.proofs.Conditions.{place-exactly, header-exactly, gdt-exactly, entry-exactly, selector-exactly, table-exactly, list-exactly, listed-exactly}
 
--- AN ANSWER AND ITS NUMBER
+different : (values : ModuleData) (n : ℕ) → Refused n ≡ Module values → ⊥
+different values n e = let z : _≡_ {A = ℕ} 0 1 = cc in omega arith
 
-different : {values : ModuleData} {n : ℕ} → Module values ≡ Refused n → ⊥
-different e = let z : _≡_ {A = ℕ} 0 1 = cc in omega arith
-
-number-of : (k : ℕ) (values : ModuleData) → numberOf (answerOf k values) ≡ k
-number-of zero values = refl
-number-of (suc k) values = rw (eqb·suc-zero k)
-
-pub values-exactly : (k : ℕ) (values d : ModuleData) → (answerOf k values ≡ Module d) ↔ ((k ≡ 0) × (d ≡ values))
-values-exactly zero values d = (λ e. (refl, cc), λ h. cc)
-values-exactly (suc k) values d = (λ e. absurd (different (sym (rw (eqb·suc-zero k) at e))), λ h. absurd (omega arith))
-
-pub number-exactly : (k : ℕ) (values : ModuleData) (n : ℕ) → (answerOf k values ≡ Refused n) ↔ ((0 < n) × (k ≡ n))
-number-exactly zero values n = (λ e. absurd (different e), λ h. absurd (omega arith))
-number-exactly (suc k) values n = (
-  λ e. let f = rw (eqb·suc-zero k) at e in let h : suc k ≡ n = cc in (omega arith, h),
-  λ h. rw (eqb·suc-zero k, h .1),
-)
-
--- THE MODULE
+same : (m n : ℕ) → Refused m ≡ Refused n → m ≡ n
+same m n e = cc
 
 supported-exactly : (m : List ℕ) (osSinitData : ℕ) → (supported m osSinitData ≡ true) ↔ Supported m osSinitData
 unfolding supported
@@ -75,32 +59,42 @@ module _ (m : List ℕ) (base capacity : ℕ) (c : Chipset) (osSinitData : ℕ) 
     λ h. h .place & h .header & h .gdt & h .entry & h .selector & h .table & h .list & h .listed & h .supported & tt,
   )
 
+  abbrev rs : List Rule
+  rs = rules m base capacity c osSinitData
+
+  abbrev ps : List Meaning
+  ps = meanings m base capacity c osSinitData
+
+  -- no rule fails exactly where every rule holds
+  pub all-hold : (firstFailing rs ≡ 0) ↔ ModuleHolds m base capacity c osSinitData
+  all-hold =
+      let say = all-mean Refused (Module (valuesOf m)) rs ps agree in
+      (λ e. holds-exactly .0 (say .0 e), λ h. say .1 (holds-exactly .1 h))
+
   -- the number of the answer is that of the first rule that fails
-  pub number-is-first : numberOf (moduleOf m base capacity c osSinitData) ≡ firstFailing (rules m base capacity c osSinitData)
+  pub number-is-first : numberOf (moduleOf m base capacity c osSinitData) ≡ firstFailing rs
   unfolding moduleOf
-  number-is-first = number-of (firstFailing (rules m base capacity c osSinitData)) (valuesOf m)
+  number-is-first = number-of Refused (Module (valuesOf m)) numberOf refl (λ n. refl) (firstFailing rs)
+
+  -- where the values are answered, no rule fails, and they are those of the module; a number is that of the first rule that fails
+  pub values-exactly : (values : ModuleData) → (moduleOf m base capacity c osSinitData ≡ Module values) ↔ ((firstFailing rs ≡ 0) × (values ≡ valuesOf m))
+  unfolding moduleOf
+  values-exactly values =
+      let answer = value-exactly Refused (Module (valuesOf m)) (Module values) (different values) (firstFailing rs) in
+      (λ e. let h = answer .0 e in (h .0, cc), λ h. answer .1 (h .0, cc))
+
+  pub refusal-exactly : (n : ℕ) → (moduleOf m base capacity c osSinitData ≡ Refused n) ↔ ((0 < n) × (firstFailing rs ≡ n))
+  unfolding moduleOf
+  refusal-exactly n = number-exactly Refused (Module (valuesOf m)) (λ k e. different _ k (sym e)) same (firstFailing rs) n
 
 pub permitted-exactly : PermittedExactly
-unfolding moduleOf
 permitted-exactly m base capacity c osSinitData values =
-    let rs = rules m base capacity c osSinitData in
-    let ps = meanings m base capacity c osSinitData in
-    let a = agree m base capacity c osSinitData in
-    let answer = values-exactly (firstFailing rs) (valuesOf m) values in
-    let passed = all-exactly rs (numbered rs ps a) in
-    let say = all-say rs ps a in
-    let hold = holds-exactly m base capacity c osSinitData in (
-      λ e. let h = answer .0 e in (hold .0 (say .0 (passed .0 (h .0))), h .1),
-      λ h. answer .1 (passed .1 (say .1 (hold .1 (h .0))), h .1),
-    )
+    let answer = values-exactly m base capacity c osSinitData values in
+    let hold = all-hold m base capacity c osSinitData in
+    (λ e. let h = answer .0 e in (hold .0 (h .0), h .1), λ h. answer .1 (hold .1 (h .0), h .1))
 
 pub refused-exactly : RefusedExactly
 unfolding moduleOf
 refused-exactly m base capacity c osSinitData n =
-    let rs = rules m base capacity c osSinitData in
-    let ps = meanings m base capacity c osSinitData in
-    let a = agree m base capacity c osSinitData in
-    let answer = number-exactly (firstFailing rs) (valuesOf m) n in (
-      λ e. let h = answer .0 e in broken-exactly rs ps a n (h .0) .0 (h .1),
-      λ b. let z = broken-number rs ps a n b in answer .1 (z, broken-exactly rs ps a n z .1 b),
-    )
+    number-means Refused (Module (valuesOf m)) (rs m base capacity c osSinitData) (ps m base capacity c osSinitData) (agree m base capacity c osSinitData)
+    (λ k e. different _ k (sym e)) same n

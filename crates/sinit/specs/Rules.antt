@@ -7,7 +7,7 @@ use lib.Dec.{leb, ltb, eqb}
 use lib.ListN.{length}
 use Rattle.field.specs.Field.{markedAt}
 use Rattle.range.specs.Range.{insideOf, endsBy}
-use Rattle.range.specs.Rules.{Rule, rule, all, firstFailing}
+use Rattle.rules.specs.Rules.{Rule, rule, all, answerBy}
 use Rattle.sinit.specs.declared.Chipset.{Chipset}
 use Rattle.sinit.specs.declared.ModuleData.{ModuleData}
 use Rattle.sinit.specs.declared.ModuleAnswer.{ModuleAnswer}
@@ -133,12 +133,9 @@ valuesOf m =
       «acm_version» = acmVersion m;
     }
 
--- the answer for a number: 0 gives the values, and every other is a refusal
-abbrev pub answerOf : ℕ → ModuleData → ModuleAnswer
-answerOf n values = cond (eqb n 0) (Module values) (Refused n)
-
+-- the values where all rules hold, else the number of the first that fails
 unfoldable pub moduleOf : List ℕ → ℕ → ℕ → Chipset → ℕ → ModuleAnswer
-moduleOf m base capacity c osSinitData = answerOf (firstFailing (rules m base capacity c osSinitData)) (valuesOf m)
+moduleOf m base capacity c osSinitData = answerBy Refused (Module (valuesOf m)) (rules m base capacity c osSinitData)
 
 -- the number of an answer
 abbrev pub numberOf : ModuleAnswer → ℕ

@@ -5,7 +5,7 @@ ghost use mathlib.Core.Path.{_≡_};
 ghost use Prim.Native.Nat.{_<_, _^_};
 ghost use Rattle.sinit.specs.Module.{headerLen, gdtLimit, E, first, editions, rowOf, editionOf};
 ghost use Rattle.sinit.specs.Module as spec;
-ghost use Rattle.range.specs.Rules.{all};
+ghost use Rattle.rules.specs.Rules.{all};
 ghost use Rattle.sinit.specs.Rules.{place, header, gdt, entry, selector};
 
 const PAGE_SIZE: u64 = 4096;

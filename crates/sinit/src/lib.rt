@@ -10,7 +10,7 @@ use header::selector_holds;
 use table::table_fault;
 use table::values;
 ghost use mathlib.Core.Path.{_≡_};
-ghost use Rattle.range.specs.Rules.{firstFailing};
+ghost use Rattle.rules.specs.Rules.{firstFailing};
 ghost use Rattle.sinit.specs.Rules.{rules, moduleOf};
 
 // What the platform says of its chipset.

@@ -7,10 +7,10 @@ use range::Range;
 ghost use mathlib.Core.Path.{_≡_};
 ghost use Prim.Native.Nat.{_+_, _^_, _<_, _≤_};
 ghost use Rattle.field.specs.Field.{numberAt};
-ghost use Rattle.range.specs.Rules.{firstFailing};
+ghost use Rattle.rules.specs.Rules.{firstFailing};
 ghost use Rattle.sinit.specs.Module.{E, chipsetList, osSinitDataVer, count};
 ghost use Rattle.sinit.specs.Rules as spec;
-ghost use Rattle.range.specs.Rules.{all};
+ghost use Rattle.rules.specs.Rules.{all};
 ghost use Rattle.sinit.specs.Rules.{table, list, revisionMatches, match, listed, supported, tableRules, valuesOf};
 
 const TABLE_SIZE: u64 = 44;

@@ -1,6 +1,6 @@
 -- `bleiwurzel_check_capture` meets its contract: the answer for the capture, number by number.
 use mathlib.Core.Path.{ap}
-use Rattle.range.proofs.Tests.{_&_}
+use Rattle.rules.proofs.Tests.{_&_}
 use Rattle.bleiwurzel.specs.Scalars.{countsOf}
 use borrow.Author.Needs.{needs}
 use Rattle.bleiwurzel.proofs.bleiwurzel_check_capture.Statement.{statement}

@@ -2,7 +2,7 @@
 use mathlib.Core.Path.{_∙_, ap, sym}
 use native.Mathlib.Omega.{arith}
 use borrow.Author.Tests.{eqb-true, eqb-false}
-use Rattle.range.proofs.Tests.{fails, agrees, confirmed, refuted}
+use Rattle.rules.proofs.Tests.{fails, agrees, confirmed, refuted}
 use Rattle.field.proofs.Laws.{marked-at}
 use Rattle.capture.proofs.Conditions.{capture-exactly}
 use borrow.Author.Needs.{needs}

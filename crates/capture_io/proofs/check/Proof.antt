@@ -3,7 +3,7 @@ use Prim.Native.Nat.{ℕ}
 use mathlib.Core.Path.{_≡_, refl, _∙_}
 use mathlib.Core.List.{List, []}
 use lib.ListN.{length}
-use Rattle.range.specs.Rules.{all}
+use Rattle.rules.specs.Rules.{all}
 use Rattle.launch.specs.Answer.{refused}
 use Rattle.capture.specs.Capture.{captureTests, notCapture, captureAnswer, capturePlaces}
 use borrow.Author.Needs.{needs}

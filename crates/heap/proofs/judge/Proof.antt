@@ -8,9 +8,10 @@ use borrow.Author.Needs.{needs}
 use borrow.Author.Tests.{le-leb, lt-leb, not-true, not-false}
 use lib.ListN.{length, take, drop, length-drop}
 use lib.Seq.{take-all}
+use Rattle.rules.specs.Rules.{answerFor}
 use Rattle.heap.specs.declared.OsSinitData.{OsSinitData}
 use Rattle.heap.specs.declared.HeapAnswer.the-variants.{OsSinit, Refused}
-use Rattle.heap.specs.Heap.{fieldsOf, afterSize, versionKnown, elementsEnd, pmrsPlaced, answerOf, partAnswer}
+use Rattle.heap.specs.Heap.{fieldsOf, afterSize, versionKnown, elementsEnd, pmrsPlaced, partAnswer}
 use Rattle.heap.proofs.judge.Statement.{statement}
 use Rattle.heap.proofs.judge.Tie as tie
 
@@ -18,7 +19,7 @@ rest : (n : ℕ) (s : List ℕ) → take (length s - n) (drop n s) ≡ drop n s
 rest n s = take-all (length s - n) (drop n s) (omega (arith, length-drop n s))
 
 short : (part : List ℕ) → length part < 108 → Refused 3 ≡ partAnswer part
-unfolding partAnswer answerOf
+unfolding partAnswer answerFor
 short part h = rw (lt-leb 108 (length part) h)
 
 -- the tests in turn, in the code's terms, each with the answer that is left to decide
@@ -27,32 +28,32 @@ module _ (part s : List ℕ) (o : OsSinitData) (is-rest : s ≡ take (length par
   after : s ≡ afterSize part
   after = is-rest ∙ rest 8 part
 
-  from-version : partAnswer part ≡ answerOf (cond k (cond (elementsEnd (drop 92 s)) (cond (pmrsPlaced o) 0 5) 4) 3) o
+  from-version : partAnswer part ≡ answerFor Refused (OsSinit o) (cond k (cond (elementsEnd (drop 92 s)) (cond (pmrsPlaced o) 0 5) 4) 3)
   unfolding partAnswer
   from-version = rw (le-leb 108 (length part) long, ← after, ← is-fields, ← is-known)
 
   unknown : not k ≡ true → Refused 3 ≡ partAnswer part
-  unfolding answerOf
+  unfolding answerFor
   unknown n = rw (from-version, not-true k n)
 
   module _ (known : not k ≡ false) (e : Bool) (is-end : e ≡ elementsEnd (take (length s - 92) (drop 92 s))) where
-    from-elements : partAnswer part ≡ answerOf (cond e (cond (pmrsPlaced o) 0 5) 4) o
+    from-elements : partAnswer part ≡ answerFor Refused (OsSinit o) (cond e (cond (pmrsPlaced o) 0 5) 4)
     from-elements = rw (from-version, not-false k known, is-end, rest 92 s)
 
     unended : not e ≡ true → Refused 4 ≡ partAnswer part
-    unfolding answerOf
+    unfolding answerFor
     unended n = rw (from-elements, not-true e n)
 
     module _ (ended : not e ≡ false) (p : Bool) (is-placed : p ≡ pmrsPlaced o) where
-      from-pmrs : partAnswer part ≡ answerOf (cond p 0 5) o
+      from-pmrs : partAnswer part ≡ answerFor Refused (OsSinit o) (cond p 0 5)
       from-pmrs = rw (from-elements, not-false e ended, is-placed)
 
       misplaced : not p ≡ true → Refused 5 ≡ partAnswer part
-      unfolding answerOf
+      unfolding answerFor
       misplaced n = rw (from-pmrs, not-true p n)
 
       accepted : not p ≡ false → OsSinit o ≡ partAnswer part
-      unfolding answerOf
+      unfolding answerFor
       accepted n = rw (from-pmrs, not-false p n)
 
 returns : tie.Need-returns

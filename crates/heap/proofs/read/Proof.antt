@@ -9,9 +9,10 @@ use borrow.Author.Needs.{needs}
 use borrow.Author.Tests.{not-true, not-false}
 use lib.ListN.{length, take, drop}
 use Rattle.field.specs.Field.{numberAt}
+use Rattle.rules.specs.Rules.{answerFor}
 use Rattle.heap.specs.declared.HeapAnswer.{HeapAnswer}
 use Rattle.heap.specs.declared.HeapAnswer.the-variants.{Refused}
-use Rattle.heap.specs.Heap.{biosDataSize, osMleDataSize, osSinitDataSize, partsFit, osSinitPart, sizeFits, answerOf, partAnswer, heapOf}
+use Rattle.heap.specs.Heap.{biosDataSize, osMleDataSize, osSinitDataSize, partsFit, osSinitPart, sizeFits, partAnswer, heapOf}
 use Rattle.heap.specs.Meaning.{PartsFit}
 use Rattle.heap.proofs.Sizes.{fits-exactly, parts-exactly}
 use Rattle.heap.proofs.read.Statement.{statement}
@@ -23,7 +24,7 @@ fits at size end w e n = fits-exactly at size end .0 (sym e ∙ not-false w n)
 module _ (heap : List ℕ) where
   unfit : (at size : ℕ) (w : Bool) → w ≡ sizeFits at size (length heap) → not w ≡ true
       → (PartsFit heap → (8 ≤ size) × (at + size ≤ length heap)) → Refused 2 ≡ heapOf heap
-  unfolding heapOf answerOf
+  unfolding heapOf answerFor
   unfit at size w e n h =
       let f : partsFit heap ≡ false =
       not-eq-not .0 (λ p. true≢false (sym (fits-exactly at size (length heap) .1 (h (parts-exactly heap .0 p))) ∙ sym e ∙ not-true w n))

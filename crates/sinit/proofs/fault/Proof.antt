@@ -1,6 +1,6 @@
 -- `fault` meets its contract: it tries the rules in their order and answers at the first that fails.
 use borrow.Author.Needs.{needs}
-use Rattle.sinit.proofs.Faults.{stop, pass}
+use Rattle.rules.proofs.Tests.{stop, pass}
 use Rattle.sinit.proofs.fault.Statement.{statement}
 use Rattle.sinit.proofs.fault.Tie as tie
 

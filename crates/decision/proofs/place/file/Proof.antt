@@ -7,7 +7,7 @@ use native.Mathlib.Nat.{add-sub-cancel-left}
 use borrow.Author.Tests.{not-true, not-false}
 use lib.ListN.{take, drop}
 use Rattle.decision.specs.Lists.{fileOf}
-use Rattle.range.proofs.Tests.{confirmed}
+use Rattle.rules.proofs.Tests.{confirmed}
 use Rattle.decision.proofs.Conditions.{placed-exactly}
 use borrow.Author.Needs.{needs}
 use Rattle.decision.proofs.place.file.Statement.{statement}

@@ -3,7 +3,7 @@ use mathlib.Core.Path.{sym, _∙_}
 use mathlib.Core.Bool.{true≢false}
 use native.Mathlib.Omega.{arith}
 use Rattle.range.proofs.Ranges.{inside-bounds}
-use Rattle.range.proofs.Tests.{fails, agrees}
+use Rattle.rules.proofs.Tests.{fails, agrees}
 use Rattle.decision.proofs.Conditions.{placed-exactly}
 use borrow.Author.Needs.{needs}
 use Rattle.decision.proofs.place.file_placed.Statement.{statement}

@@ -1,26 +1,25 @@
 -- `record` meets its contract: 0 gives the kind of policy, and every other number is a refusal.
-use Prim.Native.Nat.{ℕ, zero, suc}
-use mathlib.Core.Path.{_≡_, ap}
+use Prim.Native.Nat.{ℕ}
+use mathlib.Core.Path.{_≡_, ap, sym, _∙_}
 use borrow.Author.Tests.{ne-eqb}
+use Rattle.rules.specs.Rules.{answerFor}
+use Rattle.rules.proofs.Answers.{for-zero, for-other}
+use Rattle.decision.specs.declared.RecordAnswer.{RecordAnswer}
 use Rattle.decision.specs.declared.RecordAnswer.the-variants as answers
 use Rattle.decision.specs.Record.{LIST}
-use Rattle.decision.specs.Answers.{recordAnswer, recordOf}
+use Rattle.decision.specs.Answers.{kindOf, recordOf}
 use borrow.Author.Needs.{needs}
 use Rattle.decision.proofs.policy_record.record.Statement.{statement}
 use Rattle.decision.proofs.policy_record.record.Tie as tie
 
-refused : (n k type : ℕ) → n ≡ k → (n ≡ 0 → ⊥) → answers.Refused n ≡ recordAnswer k type
-unfolding recordAnswer
-refused n zero type e h = absurd (h e)
-refused n (suc k) type e h = ap answers.Refused e
+refused : (n k : ℕ) (a : RecordAnswer) → n ≡ k → (n ≡ 0 → ⊥) → answers.Refused n ≡ answerFor answers.Refused a k
+refused n k a e h = sym (ap (answerFor answers.Refused a) (sym e) ∙ for-other answers.Refused a n h)
 
-list : (n k type t : ℕ) → n ≡ k → n ≡ 0 → t ≡ type → t ≡ LIST → answers.List ≡ recordAnswer k type
-unfolding recordAnswer
-list n k type t e z q h = rw (← e, z, ← q, h)
+list : (n k type t : ℕ) → n ≡ k → n ≡ 0 → t ≡ type → t ≡ LIST → answers.List ≡ answerFor answers.Refused (kindOf type) k
+list n k type t e z q h = rw (for-zero answers.Refused (kindOf type) k (sym e ∙ z), ← q, h)
 
-any : (n k type t : ℕ) → n ≡ k → n ≡ 0 → t ≡ type → (t ≡ LIST → ⊥) → answers.Any ≡ recordAnswer k type
-unfolding recordAnswer
-any n k type t e z q h = rw (← e, z, ← q, ne-eqb t LIST h)
+any : (n k type t : ℕ) → n ≡ k → n ≡ 0 → t ≡ type → (t ≡ LIST → ⊥) → answers.Any ≡ answerFor answers.Refused (kindOf type) k
+any n k type t e z q h = rw (for-zero answers.Refused (kindOf type) k (sym e ∙ z), ← q, ne-eqb t LIST h)
 
 fault-requires : tie.Need-fault-requires
 fault-requires c κs = search needs

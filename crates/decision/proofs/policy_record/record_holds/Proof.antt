@@ -2,7 +2,7 @@
 use mathlib.Core.Logic.{inl, inr, ⊎-elim}
 use native.Mathlib.Omega.{arith}
 use borrow.Author.Tests.{eqb-true, eqb-false}
-use Rattle.range.proofs.Tests.{fails, holds, agrees}
+use Rattle.rules.proofs.Tests.{fails, holds, agrees}
 use Rattle.decision.proofs.Conditions.{record-exactly}
 use borrow.Author.Needs.{needs}
 use Rattle.decision.proofs.policy_record.record_holds.Statement.{statement}

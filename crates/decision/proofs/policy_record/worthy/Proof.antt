@@ -5,7 +5,7 @@ use mathlib.Core.Logic.{_⊎_, inl, inr, ⊎-elim}
 use native.Mathlib.Omega.{arith}
 use borrow.Author.Tests.{eqb-true, eqb-false}
 use lib.Bits.{bitAnd, and-mask}
-use Rattle.range.proofs.Tests.{holds, agrees}
+use Rattle.rules.proofs.Tests.{holds, agrees}
 use Rattle.decision.specs.Meaning.{Bit}
 use Rattle.decision.proofs.Conditions.{worthy-exactly}
 use borrow.Author.Needs.{needs}

@@ -3,7 +3,7 @@ use mathlib.Core.Path.{sym, _∙_}
 use mathlib.Core.Bool.{true≢false}
 use native.Mathlib.Omega.{arith}
 use Rattle.range.proofs.Ranges.{ends-exactly}
-use Rattle.range.proofs.Tests.{fails, agrees, confirmed, refuted}
+use Rattle.rules.proofs.Tests.{fails, agrees, confirmed, refuted}
 use Rattle.launch.proofs.Conditions.{platform-exactly}
 use borrow.Author.Needs.{needs}
 use Rattle.launch.proofs.stages.platform_holds.Statement.{statement}

@@ -4,7 +4,7 @@ use native.Mathlib.Omega.{arith}
 use borrow.Author.Tests.{eqb-true, eqb-false}
 use borrow.Author.Needs.{needs}
 use Rattle.field.proofs.Laws.{marked-at}
-use Rattle.range.proofs.Tests.{fails, agrees, confirmed, refuted, each}
+use Rattle.rules.proofs.Tests.{fails, agrees, confirmed, refuted, each}
 use Rattle.mle.specs.Header.{entryPoint, fieldTests}
 use Rattle.mle.proofs.Meaning.{mapped-exactly, fields-exactly}
 use Rattle.mle.proofs.header.fields_hold.Statement.{statement}

@@ -8,7 +8,7 @@ use native.Mathlib.Nat.{add-sub-cancel-left}
 use native.Mathlib.Omega.{arith}
 use borrow.Author.Needs.{needs}
 use lib.ListN.{length, take, drop, length-take, length-drop}
-use Rattle.range.proofs.Tests.{fails, agrees, confirmed, refuted, _&_, each}
+use Rattle.rules.proofs.Tests.{fails, agrees, confirmed, refuted, _&_, each}
 use Rattle.mle.specs.declared.Image.{Image}
 use Rattle.mle.specs.Image.{addressAt, bytesAt}
 use Rattle.mle.specs.Header.{headerSize, lastOffset, linearPage, offset, headerBytes, uuid, headerTests}

@@ -2,7 +2,7 @@
 use native.Mathlib.Omega.{arith}
 use borrow.Author.Tests.{ltb-true, ltb-false}
 use borrow.Author.Needs.{needs}
-use Rattle.range.proofs.Tests.{fails, agrees}
+use Rattle.rules.proofs.Tests.{fails, agrees}
 use Rattle.mle.proofs.Meaning.{mapped-exactly}
 use Rattle.mle.proofs.header.is_mapped.Statement.{statement}
 use Rattle.mle.proofs.header.is_mapped.Tie as tie

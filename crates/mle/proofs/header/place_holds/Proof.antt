@@ -2,7 +2,7 @@
 use native.Mathlib.Omega.{arith}
 use borrow.Author.Tests.{leb-true, leb-false}
 use borrow.Author.Needs.{needs}
-use Rattle.range.proofs.Tests.{fails, agrees, confirmed, refuted}
+use Rattle.rules.proofs.Tests.{fails, agrees, confirmed, refuted}
 use Rattle.mle.proofs.Meaning.{mapped-exactly, place-exactly}
 use Rattle.mle.proofs.header.place_holds.Statement.{statement}
 use Rattle.mle.proofs.header.place_holds.Tie as tie

@@ -1,7 +1,7 @@
 -- `size_holds` meets its contract: its tests are those of the rule.
 use native.Mathlib.Omega.{arith}
 use borrow.Author.Tests.{leb-true, leb-false}
-use Rattle.range.proofs.Tests.{fails, agrees}
+use Rattle.rules.proofs.Tests.{fails, agrees}
 use Rattle.mle.proofs.Meaning.{size-exactly}
 use Rattle.mle.proofs.header.size_holds.Statement.{statement}
 use Rattle.mle.proofs.header.size_holds.Tie as tie

@@ -10,7 +10,7 @@ use borrow.Author.Tests.{not-true}
 use lib.ListN.{take, drop}
 use Rattle.range.specs.Range.{insideOf}
 use Rattle.range.proofs.Ranges.{inside-bounds}
-use Rattle.range.proofs.Tests.{confirmed}
+use Rattle.rules.proofs.Tests.{confirmed}
 use Rattle.pages.specs.Memory.{pageSize, pageOf, windowOf}
 use Rattle.mle.specs.declared.Image.{Image}
 use Rattle.mle.specs.Image.{bytesAt}

@@ -3,7 +3,7 @@ use native.Mathlib.Omega.{arith}
 use borrow.Author.Tests.{ltb-true, ltb-false}
 use borrow.Author.Needs.{needs}
 use Rattle.sinit.proofs.Conditions.{entry-exactly}
-use Rattle.range.proofs.Tests.{fails, agrees}
+use Rattle.rules.proofs.Tests.{fails, agrees}
 use Rattle.sinit.proofs.header.entry_holds.Statement.{statement}
 use Rattle.sinit.proofs.header.entry_holds.Tie as tie
 

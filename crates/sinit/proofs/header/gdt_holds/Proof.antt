@@ -3,7 +3,7 @@ use native.Mathlib.Omega.{arith}
 use borrow.Author.Tests.{ltb-true, ltb-false}
 use borrow.Author.Needs.{needs}
 use Rattle.sinit.proofs.Conditions.{gdt-exactly}
-use Rattle.range.proofs.Tests.{fails, agrees}
+use Rattle.rules.proofs.Tests.{fails, agrees}
 use Rattle.sinit.proofs.header.gdt_holds.Statement.{statement}
 use Rattle.sinit.proofs.header.gdt_holds.Tie as tie
 

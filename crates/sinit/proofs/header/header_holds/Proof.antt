@@ -3,7 +3,7 @@ use native.Mathlib.Omega.{arith}
 use borrow.Author.Tests.{eqb-true, eqb-false}
 use borrow.Author.Needs.{needs}
 use Rattle.sinit.proofs.Conditions.{header-exactly}
-use Rattle.range.proofs.Tests.{fails, agrees}
+use Rattle.rules.proofs.Tests.{fails, agrees}
 use Rattle.sinit.proofs.Editions.{alike}
 use Rattle.sinit.proofs.header.header_holds.Statement.{statement}
 use Rattle.sinit.proofs.header.header_holds.Tie as tie

@@ -5,7 +5,7 @@ use native.Mathlib.Omega.{arith}
 use borrow.Author.Needs.{needs}
 use Rattle.range.proofs.Ranges.{ends-exactly}
 use Rattle.sinit.proofs.Conditions.{place-exactly}
-use Rattle.range.proofs.Tests.{fails, agrees}
+use Rattle.rules.proofs.Tests.{fails, agrees}
 use Rattle.sinit.proofs.Editions.{alike}
 use Rattle.sinit.proofs.header.place_holds.Statement.{statement}
 use Rattle.sinit.proofs.header.place_holds.Tie as tie

@@ -3,7 +3,7 @@ use native.Mathlib.Omega.{arith}
 use borrow.Author.Tests.{leb-true, leb-false}
 use borrow.Author.Needs.{needs}
 use Rattle.sinit.proofs.Conditions.{selector-exactly}
-use Rattle.range.proofs.Tests.{fails, agrees}
+use Rattle.rules.proofs.Tests.{fails, agrees}
 use Rattle.sinit.proofs.header.selector_holds.Statement.{statement}
 use Rattle.sinit.proofs.header.selector_holds.Tie as tie
 

@@ -8,7 +8,7 @@ use borrow.Author.Needs.{needs}
 use Rattle.sinit.specs.Module.{entryAt}
 use Rattle.sinit.specs.Meaning.{Matches}
 use Rattle.sinit.proofs.Conditions.{match-exactly, listed-exactly}
-use Rattle.range.proofs.Tests.{fails, holds}
+use Rattle.rules.proofs.Tests.{fails, holds}
 use Rattle.sinit.proofs.table.chipset_listed.Statement.{statement}
 use Rattle.sinit.proofs.table.chipset_listed.Tie as tie
 

@@ -5,7 +5,7 @@ use borrow.Author.Tests.{eq-eqb}
 use borrow.Author.Needs.{needs}
 use Rattle.sinit.specs.Rules.{match}
 use Rattle.sinit.proofs.Conditions.{match-exactly}
-use Rattle.range.proofs.Tests.{fails, agrees, _&_, each}
+use Rattle.rules.proofs.Tests.{fails, agrees, _&_, each}
 use Rattle.sinit.proofs.table.entry_matches.Statement.{statement}
 use Rattle.sinit.proofs.table.entry_matches.Tie as tie
 

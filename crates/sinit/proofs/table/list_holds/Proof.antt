@@ -6,7 +6,7 @@ use borrow.Author.Tests.{le-leb}
 use borrow.Author.Needs.{needs}
 use Rattle.sinit.specs.Rules.{list}
 use Rattle.sinit.proofs.Conditions.{list-exactly}
-use Rattle.range.proofs.Tests.{fails, agrees, confirmed, refuted, _&_, each}
+use Rattle.rules.proofs.Tests.{fails, agrees, confirmed, refuted, _&_, each}
 use Rattle.sinit.proofs.table.list_holds.Statement.{statement}
 use Rattle.sinit.proofs.table.list_holds.Tie as tie
 

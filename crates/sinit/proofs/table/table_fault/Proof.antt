@@ -1,6 +1,6 @@
 -- `table_fault` meets its contract: it tries the rules in their order and answers at the first that fails.
 use borrow.Author.Needs.{needs}
-use Rattle.sinit.proofs.Faults.{stop, pass}
+use Rattle.rules.proofs.Tests.{stop, pass}
 use Rattle.sinit.proofs.table.table_fault.Statement.{statement}
 use Rattle.sinit.proofs.table.table_fault.Tie as tie
 

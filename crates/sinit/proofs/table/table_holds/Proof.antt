@@ -5,7 +5,7 @@ use borrow.Author.Needs.{needs}
 use Rattle.field.proofs.Laws.{marked-at}
 use Rattle.sinit.specs.Rules.{table}
 use Rattle.sinit.proofs.Conditions.{inside-exactly, table-exactly}
-use Rattle.range.proofs.Tests.{fails, agrees, confirmed, refuted, each}
+use Rattle.rules.proofs.Tests.{fails, agrees, confirmed, refuted, each}
 use Rattle.sinit.proofs.table.table_holds.Statement.{statement}
 use Rattle.sinit.proofs.table.table_holds.Tie as tie
 

@@ -5,7 +5,7 @@ use lib.ListN.{length}
 use Rattle.field.specs.Number.{bytes}
 use Rattle.range.specs.declared.Range.{Range}
 use Rattle.pages.specs.declared.Memory.{Memory}
-use Rattle.lines.specs.Modules.{zeros}
+use Rattle.proved_cases.specs.Modules.{zeros}
 
 abbrev pub range : ℕ → ℕ → Range
 range base size = record { base = base; size = size }

@@ -5,7 +5,7 @@ use mathlib.Core.Logic.{_↔_}
 use mathlib.Core.Bool.{Bool, true, false, cond}
 use mathlib.Core.List.{List, [], _∷_, _++_, append-nil}
 use native.Mathlib.Omega.{arith}
-use Rattle.range.specs.Rules.{Rule, firstFailing, AllHold, Numbered, FirstFails}
+use Rattle.rules.specs.Rules.{Rule, firstFailing, AllHold, Numbered, FirstFails}
 
 -- rules that hold are passed over
 pub passed : (rs later : List Rule) → AllHold rs → firstFailing (rs ++ later) ≡ firstFailing later

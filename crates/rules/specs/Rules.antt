@@ -1,5 +1,5 @@
 -- Rules in the order they are tried: the first that fails gives the number.
-use Prim.Native.Nat.{ℕ, _<_}
+use Prim.Native.Nat.{ℕ, zero, suc, _<_}
 use mathlib.Core.Path.{_≡_}
 use mathlib.Core.Bool.{Bool, true, false, cond, _&&_}
 use mathlib.Core.List.{List, [], _∷_, _++_}
@@ -40,3 +40,12 @@ pub record FirstFails (rs : List Rule) (n : ℕ) : Type 0 where
   pub earlier : AllHold before
   pub fails : failing .holds ≡ false
   pub numbered : failing .number ≡ n
+
+-- the answer for a number: 0 gives a value, every other number is a refusal with it
+unfoldable pub answerFor : {A : Type 0} → (ℕ → A) → A → ℕ → A
+answerFor refused a zero = a
+answerFor refused a (suc n) = refused (suc n)
+
+-- the answer by rules: the value where all hold, else a refusal with the number of the first that fails
+abbrev pub answerBy : {A : Type 0} → (ℕ → A) → A → List Rule → A
+answerBy refused a rs = answerFor refused a (firstFailing rs)

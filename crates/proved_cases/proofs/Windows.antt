@@ -11,7 +11,7 @@ use Rattle.field.specs.Number.{bytes, number}
 use Rattle.field.proofs.Laws.{length-bytes, number-bytes, number-at-fits}
 use Rattle.range.specs.Range.{insideOf}
 use Rattle.range.proofs.Ranges.{inside-bounds}
-use Rattle.range.specs.Rules.{firstFailing}
+use Rattle.rules.specs.Rules.{firstFailing}
 use Rattle.pages.specs.declared.Kind.{Kind}
 use Rattle.pages.specs.declared.Kind.the-variants.{Pointer, Directory, Page}
 use Rattle.pages.specs.Entry.{presentOf, addressOf}
@@ -22,9 +22,9 @@ use Rattle.pages.proofs.Tests.{read-inside}
 use Rattle.pages.proofs.Found.{found-listed}
 use Rattle.pages.proofs.Joined.{pages-joined, directories-joined}
 use Rattle.pages.proofs.Meaning.{number-is-first}
-use Rattle.lines.specs.Modules.{zeros}
-use Rattle.lines.specs.Windows.{range, entryOf, entryBytes, tableWith, windowBase, windowWith, memory}
-use Rattle.lines.specs.Table.{walkNumber}
+use Rattle.proved_cases.specs.Modules.{zeros}
+use Rattle.proved_cases.specs.Windows.{range, entryOf, entryBytes, tableWith, windowBase, windowWith, memory}
+use Rattle.proved_cases.specs.Table.{walkNumber}
 
 -- ZEROS
 

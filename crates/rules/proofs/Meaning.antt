@@ -6,8 +6,8 @@ use mathlib.Core.Logic.{_↔_, _⊎_, inl, inr, ⊎-elim}
 use mathlib.Core.Bool.{Bool, true, false, cond, true≢false}
 use mathlib.Core.List.{List, [], _∷_}
 use native.Mathlib.Omega.{arith}
-use Rattle.range.specs.Rules.{Rule, rule, firstFailing, AllHold, Numbered}
-use Rattle.range.specs.Meaning.{Meaning, meaning, AllSay, FirstBroken}
+use Rattle.rules.specs.Rules.{Rule, rule, firstFailing, AllHold, Numbered}
+use Rattle.rules.specs.Meaning.{Meaning, meaning, AllSay, FirstBroken}
 
 -- a rule and a meaning with the same number, not 0, of which the one holds exactly where the other does
 pub record Agrees (r : Rule) (p : Meaning) : Type 0 where

@@ -95,6 +95,14 @@ enum bleiwurzel_number {
 /* The most pages that an image can have: with as many places in the page list, 13 is never answered. */
 #define BLEIWURZEL_MOST_PAGES 4096u
 
+/* Bytes: the most of a memory window, of a TXT heap and of a capture file, the least and the most of a policy file, those of a policy record. */
+#define BLEIWURZEL_MOST_WINDOW (32u << 20)
+#define BLEIWURZEL_MOST_HEAP (1u << 20)
+#define BLEIWURZEL_MOST_CAPTURE 65536u
+#define BLEIWURZEL_LEAST_POLICY 36u
+#define BLEIWURZEL_MOST_POLICY 65536u
+#define BLEIWURZEL_RECORD_LENGTH 70u
+
 /* The platform, as chipset registers and firmware report it. */
 struct bleiwurzel_platform {
     uint64_t window_base;    /* physical address of the window's first byte */
@@ -121,7 +129,7 @@ struct bleiwurzel_answer {
 /*
  * Whether the next launch will succeed.
  *
- * Lent for reading: window, heap, sinit (the SINIT module) and policy (the policy record of 70 bytes), each with its length in bytes. The
+ * Lent for reading: window, heap, sinit (the SINIT module) and record (the policy record of 70 bytes), each with its length in bytes. The
  * policy file of a LIST policy is read from the window, where OsSinitData says it is. The nine numbers after them are the platform's, in the
  * order of struct bleiwurzel_platform.
  * Written: pages, a list of `places` 64-bit numbers: on a permission (0) its first counts[0] places get the physical addresses of the pages in
@@ -130,7 +138,7 @@ struct bleiwurzel_answer {
  * Answers 0 to 29; never 30.
  */
 uint32_t bleiwurzel_check(const uint8_t *window, size_t window_length, const uint8_t *heap, size_t heap_length, const uint8_t *sinit,
-                          size_t sinit_length, const uint8_t *policy, size_t policy_length, uint64_t window_base, uint64_t heap_base,
+                          size_t sinit_length, const uint8_t *record, size_t record_length, uint64_t window_base, uint64_t heap_base,
                           uint64_t sinit_base, uint64_t dpr_base, uint64_t dpr_size, uint64_t acram_capacity, uint16_t vendor,
                           uint16_t device, uint16_t revision, uint64_t *pages, size_t places, uint32_t counts[2], uint8_t digest[32]);
 
@@ -201,7 +209,7 @@ enum {
  */
 uint32_t bleiwurzel_policy_element(const uint8_t *file, size_t file_length, size_t i, size_t j, uint64_t fields[8]);
 
-/* ---- Parts of the check by themselves ----------------------------------------------------------------------------------------------- */
+/* ---- SHA-256 ------------------------------------------------------------------------------------------------------------------------ */
 
 /*
  * SHA-256 of a message.
@@ -210,53 +218,17 @@ uint32_t bleiwurzel_policy_element(const uint8_t *file, size_t file_length, size
  */
 void bleiwurzel_sha256(const uint8_t *message, size_t message_length, uint8_t digest[32]);
 
-/*
- * The same digest, absorbed in parts of `part` bytes (the last one may be shorter), in one piece where part is 0.
- *
- * Lent for reading: message. Written: digest.
- */
-void bleiwurzel_sha256_in_parts(const uint8_t *message, size_t message_length, size_t part, uint8_t digest[32]);
-
-/*
- * The walk through the page tables by itself: 0, or 14 to 20. Rules 1 to 13 are not tried, and 21 is not either.
- *
- * Lent for reading: window. base is the physical address of its first byte, tables that of the pointer table; the ranges after them are the
- * heap, the SINIT module, DPR, the low PMR and the high PMR, each as base and size in bytes; of size 0 they forbid or protect nothing.
- * Written: mapped always: [0] the number of the first linear page, [1] how many pages there are; both 0 on a refusal.
- */
-uint32_t bleiwurzel_walk(const uint8_t *window, size_t window_length, uint64_t base, uint64_t tables, uint64_t heap, uint64_t heap_size,
-                         uint64_t sinit, uint64_t sinit_size, uint64_t dpr, uint64_t dpr_size, uint64_t low, uint64_t low_size,
-                         uint64_t high, uint64_t high_size, uint32_t mapped[2]);
-
-/*
- * SHA-256 over `count` pages from the linear page `first` on, as the tables at `tables` name them. It is meant for what bleiwurzel_walk
- * accepts, with first and count as mapped gives them; no rule is tried here, and a page that is not wholly in the window adds no bytes.
- *
- * Lent for reading: window. Written: digest.
- */
-void bleiwurzel_digest_of_pages(const uint8_t *window, size_t window_length, uint64_t base, uint64_t tables, uint32_t first, uint32_t count,
-                                uint8_t digest[32]);
-
-/*
- * The physical addresses of the same pages: bits 12 to 51 of their entries.
- *
- * Lent for reading: window. Written: where places is at least count, the first count places of pages; the others stay, and all of them where
- * places is below count.
- */
-void bleiwurzel_page_list(const uint8_t *window, size_t window_length, uint64_t base, uint64_t tables, uint32_t first, uint32_t count,
-                          uint64_t *pages, size_t places);
-
 /* ---- Shorter to call ---------------------------------------------------------------------------------------------------------------- */
 
 /* bleiwurzel_check with the platform as a struct and the answer as a struct. pages is written as said there. */
 static inline struct bleiwurzel_answer bleiwurzel_launch(const uint8_t *window, size_t window_length, const uint8_t *heap,
                                                          size_t heap_length, const uint8_t *sinit, size_t sinit_length,
-                                                         const uint8_t *policy, size_t policy_length,
+                                                         const uint8_t *record, size_t record_length,
                                                          const struct bleiwurzel_platform *platform, uint64_t *pages, size_t places)
 {
     struct bleiwurzel_answer answer;
     uint32_t counts[2];
-    answer.number = bleiwurzel_check(window, window_length, heap, heap_length, sinit, sinit_length, policy, policy_length,
+    answer.number = bleiwurzel_check(window, window_length, heap, heap_length, sinit, sinit_length, record, record_length,
                                      platform->window_base, platform->heap_base, platform->sinit_base, platform->dpr_base,
                                      platform->dpr_size, platform->acram_capacity, platform->vendor, platform->device,
                                      platform->revision, pages, places, counts, answer.digest);

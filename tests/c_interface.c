@@ -22,31 +22,6 @@ static void digests(void)
     uint8_t digest[32];
     bleiwurzel_sha256((const uint8_t *)"abc", 3, digest);
     NEED(memcmp(digest, abc, 32) == 0);
-    memset(digest, 0, 32);
-    bleiwurzel_sha256_in_parts((const uint8_t *)"abc", 3, 2, digest);
-    NEED(memcmp(digest, abc, 32) == 0);
-}
-
-static void pages_by_themselves(void)
-{
-    uint32_t mapped[2] = { 9, 9 };
-    NEED(bleiwurzel_walk(window, sizeof window, BASE, BASE + PAGE, 0x300000, sizeof heap, 0x200000, sizeof sinit, 0x100000, 0x100000, 0, 0,
-                         0, 0, mapped) == 0);
-    NEED(mapped[0] == 0 && mapped[1] == 2);
-    NEED(bleiwurzel_walk(window, sizeof window, BASE, BASE + PAGE, 0x300000, sizeof heap, 0x200000, sizeof sinit, 0, 0, 0, 0, 0, 0, mapped) ==
-         BLEIWURZEL_NOT_PROTECTED);
-    NEED(mapped[0] == 0 && mapped[1] == 0);
-    NEED(bleiwurzel_walk(window, sizeof window, BASE, BASE + PAGE, 0x300000, sizeof heap, 0x200000, sizeof sinit, 0, 0, BASE, 6 * PAGE, 0, 0,
-                         mapped) == 0);
-    uint8_t digest[32], expected[32];
-    bleiwurzel_digest_of_pages(window, sizeof window, BASE, BASE + PAGE, 0, 2, digest);
-    bleiwurzel_sha256(window + 4 * PAGE, 2 * PAGE, expected);
-    NEED(memcmp(digest, expected, 32) == 0);
-    uint64_t list[3] = { UNTOUCHED, UNTOUCHED, UNTOUCHED };
-    bleiwurzel_page_list(window, sizeof window, BASE, BASE + PAGE, 0, 2, list, 1);
-    NEED(list[0] == UNTOUCHED);
-    bleiwurzel_page_list(window, sizeof window, BASE, BASE + PAGE, 0, 2, list, 3);
-    NEED(list[0] == 0x104000 && list[1] == 0x105000 && list[2] == UNTOUCHED);
 }
 
 static void launches(void)
@@ -58,6 +33,9 @@ static void launches(void)
     a = bleiwurzel_launch(window, sizeof window, heap, sizeof heap, sinit, sizeof sinit, record, sizeof record, &platform, list, 3);
     NEED(a.number == BLEIWURZEL_PERMITTED && a.pages == 2 && a.list == BLEIWURZEL_NO_LIST_INDEX);
     NEED(list[0] == 0x104000 && list[1] == 0x105000 && list[2] == UNTOUCHED);
+    uint8_t expected[32];
+    bleiwurzel_sha256(window + 4 * PAGE, 2 * PAGE, expected);
+    NEED(memcmp(a.digest, expected, 32) == 0);
 }
 
 static void captures(void)
@@ -135,7 +113,6 @@ int main(void)
     build_window();
     build_record();
     digests();
-    pages_by_themselves();
     launches();
     captures();
     policies();

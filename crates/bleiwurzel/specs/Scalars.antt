@@ -1,12 +1,11 @@
--- The records that are passed number by number, and those that are answered in arrays.
+-- The platform, which is passed number by number, and the answer, which is given as a number and arrays.
 use Prim.Native.Nat.{ℕ}
+use mathlib.Core.Path.{_≡_}
 use mathlib.Core.List.{List, [], _∷_}
 use Rattle.launch.specs.declared.Platform.{Platform}
 use Rattle.launch.specs.declared.Answer.{Answer}
-use Rattle.mle.specs.declared.Image.{Image}
-use Rattle.pages.specs.declared.Memory.{Memory}
-use Rattle.pages.specs.declared.WalkAnswer.{WalkAnswer}
-use Rattle.pages.specs.declared.WalkAnswer.the-variants.{Mapped, Refused}
+use Rattle.launch.specs.Rules.{Input}
+use Rattle.launch.specs.Answer.{answerOf, placesOf}
 
 abbrev pub platformOf : ℕ → ℕ → ℕ → ℕ → ℕ → ℕ → ℕ → ℕ → ℕ → Platform
 platformOf window heap sinit dpr dprSize capacity vendor device revision =
@@ -26,21 +25,14 @@ platformOf window heap sinit dpr dprSize capacity vendor device revision =
 abbrev pub countsOf : Answer → List ℕ
 countsOf a = a .pages ∷ a .list ∷ []
 
-abbrev pub imageOf : ℕ → ℕ → ℕ → ℕ → Image
-imageOf base tables first count = record { window = base; tables = tables; first = first; count = count }
+-- how an answer and the page list that goes with it are given: the number as the result, how many pages and the list in one array, the digest
+-- in another
+pub record Given (answer : Answer) (places : List ℕ) (result : ℕ) (pages : List ℕ) (counts : List ℕ) (digest : List ℕ) : Type 0 where
+  pub the-number : result ≡ answer .number
+  pub the-pages : pages ≡ places
+  pub the-counts : counts ≡ countsOf answer
+  pub the-digest : digest ≡ answer .digest
 
-abbrev pub memoryOf : ℕ → ℕ → ℕ → ℕ → ℕ → ℕ → ℕ → ℕ → ℕ → ℕ → ℕ → Memory
-memoryOf base heap heapSize sinit sinitSize dpr dprSize low lowSize high highSize =
-    record {
-      window = base;
-      heap = record { base = heap; size = heapSize };
-      sinit = record { base = sinit; size = sinitSize };
-      dpr = record { base = dpr; size = dprSize };
-      low = record { base = low; size = lowSize };
-      high = record { base = high; size = highSize };
-    }
-
--- the first linear page and how many there are, both 0 on a refusal
-abbrev pub mappedOf : WalkAnswer → List ℕ
-mappedOf (Mapped first count) = first ∷ count ∷ []
-mappedOf (Refused n) = 0 ∷ 0 ∷ []
+-- the same for the answer of the check, where the page list held `listed` before
+abbrev pub GivenFor : Input → List ℕ → ℕ → List ℕ → List ℕ → List ℕ → Type 0
+GivenFor input listed = Given (answerOf input) (placesOf input listed)

@@ -1,14 +1,13 @@
-// The check and its parts for programs in C or Rust: include/bleiwurzel.h. A slice is passed as its address and its length, and what is answered
+// The check, the reader of policy files and SHA-256 for programs in C or Rust: include/bleiwurzel.h. A slice is passed as its address and its length, and what is answered
 // besides a number is written to arrays that the caller lends.
-mod measured;
 mod policy_file;
 
 ghost use mathlib.Core.Path.{_≡_};
 ghost use lib.ListN.{length};
+ghost use Rattle.sha256.specs.Message.{sha256};
 ghost use Rattle.launch.specs.Rules.{inputOf};
-ghost use Rattle.launch.specs.Answer.{answerOf, placesOf};
 ghost use Rattle.capture.specs.Capture.{captureAnswer, capturePlaces};
-ghost use Rattle.bleiwurzel.specs.Scalars.{platformOf, countsOf};
+ghost use Rattle.bleiwurzel.specs.Scalars.{platformOf, Given, GivenFor};
 use launch::Platform;
 
 // Whether the next launch will succeed: the number. On permission the first places of `pages` hold the addresses of the pages. `counts` gets the
@@ -18,7 +17,7 @@ pub extern "C" fn bleiwurzel_check(
     window: &[u8],
     heap: &[u8],
     sinit: &[u8],
-    policy: &[u8],
+    record: &[u8],
     window_base: u64,
     heap_base: u64,
     sinit_base: u64,
@@ -32,10 +31,11 @@ pub extern "C" fn bleiwurzel_check(
     counts: &mut [u32; 2],
     digest: &mut [u8; 32],
 ) -> u32
-    ensures number { λ r. ⌜ r ≡ answerOf (inputOf (now (window .entry)) (now (heap .entry)) (now (sinit .entry)) (now (policy .entry)) (platformOf «window_base» «heap_base» «sinit_base» «dpr_base» «dpr_size» «acram_capacity» vendor device revision) (length (now (pages .entry)))) .number ⌝ }
-    ensures places { λ _. ⌜ now (pages .exit) ≡ placesOf (inputOf (now (window .entry)) (now (heap .entry)) (now (sinit .entry)) (now (policy .entry)) (platformOf «window_base» «heap_base» «sinit_base» «dpr_base» «dpr_size» «acram_capacity» vendor device revision) (length (now (pages .entry)))) (now (pages .entry)) ⌝ }
-    ensures counts { λ _. ⌜ now (counts .exit) ≡ countsOf (answerOf (inputOf (now (window .entry)) (now (heap .entry)) (now (sinit .entry)) (now (policy .entry)) (platformOf «window_base» «heap_base» «sinit_base» «dpr_base» «dpr_size» «acram_capacity» vendor device revision) (length (now (pages .entry))))) ⌝ }
-    ensures digest { λ _. ⌜ now (digest .exit) ≡ answerOf (inputOf (now (window .entry)) (now (heap .entry)) (now (sinit .entry)) (now (policy .entry)) (platformOf «window_base» «heap_base» «sinit_base» «dpr_base» «dpr_size» «acram_capacity» vendor device revision) (length (now (pages .entry)))) .digest ⌝ }
+    ensures { λ r. ⌜ GivenFor
+        (inputOf (now (window .entry)) (now (heap .entry)) (now (sinit .entry)) (now («record» .entry))
+        (platformOf «window_base» «heap_base» «sinit_base» «dpr_base» «dpr_size» «acram_capacity» vendor device revision)
+        (length (now (pages .entry))))
+        (now (pages .entry)) r (now (pages .exit)) (now (counts .exit)) (now (digest .exit)) ⌝ }
 {
     let platform = Platform {
         window_base,
@@ -48,7 +48,7 @@ pub extern "C" fn bleiwurzel_check(
         device,
         revision,
     };
-    let a = launch::check(window, heap, sinit, policy, platform, pages);
+    let a = launch::check(window, heap, sinit, record, platform, pages);
     let two = [a.pages, a.list];
     let sum = a.digest;
     *counts = two;
@@ -64,10 +64,10 @@ pub extern "C" fn bleiwurzel_check_capture(
     counts: &mut [u32; 2],
     digest: &mut [u8; 32],
 ) -> u32
-    ensures number { λ r. ⌜ r ≡ captureAnswer (now (capture .entry)) (length (now (pages .entry))) .number ⌝ }
-    ensures places { λ _. ⌜ now (pages .exit) ≡ capturePlaces (now (capture .entry)) (now (pages .entry)) ⌝ }
-    ensures counts { λ _. ⌜ now (counts .exit) ≡ countsOf (captureAnswer (now (capture .entry)) (length (now (pages .entry)))) ⌝ }
-    ensures digest { λ _. ⌜ now (digest .exit) ≡ captureAnswer (now (capture .entry)) (length (now (pages .entry))) .digest ⌝ }
+    ensures { λ r. ⌜ Given
+        (captureAnswer (now (capture .entry)) (length (now (pages .entry))))
+        (capturePlaces (now (capture .entry)) (now (pages .entry)))
+        r (now (pages .exit)) (now (counts .exit)) (now (digest .exit)) ⌝ }
 {
     let r = capture::check(capture, pages);
     let two = [r.pages, r.list];
@@ -75,4 +75,12 @@ pub extern "C" fn bleiwurzel_check_capture(
     *counts = two;
     *digest = sum;
     r.number
+}
+
+// SHA-256 of a message.
+#[no_mangle]
+pub extern "C" fn bleiwurzel_sha256(message: &[u8], digest: &mut [u8; 32])
+    ensures { λ _. ⌜ now (digest .exit) ≡ sha256 (now (message .entry)) ⌝ }
+{
+    *digest = sha256::digest(message);
 }

@@ -44,8 +44,8 @@ module _ (s : List ℕ) (o : Offsets) (p : Platform) (n : ℕ) where
       inputOf
       (take (o .heap - windowAt) (drop windowAt s))
       (take (o .sinit - o .heap) (drop (o .heap) s))
-      (take (o .policy - o .sinit) (drop (o .sinit) s))
-      (take (o .end - o .policy) (drop (o .policy) s))
+      (take (o .«policy_record» - o .sinit) (drop (o .sinit) s))
+      (take (o .end - o .«policy_record») (drop (o .«policy_record») s))
       p
       n
 

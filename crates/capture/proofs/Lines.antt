@@ -1,5 +1,4 @@
 -- Text in arrays: digits that a loop puts in from the last to the first, and text that a loop puts behind other text.
--- The lines that are printed one after the other are the whole output.
 use Prim.Native.Nat.{ℕ, zero, suc, _+_, _-_, _/_, _%_, _^_, _<_, _≤_, min}
 use mathlib.Core.Path.{_≡_, refl, sym, _∙_, ap, ap₂}
 use mathlib.Core.List.{List, [], _∷_, _++_, append-assoc, append-nil}
@@ -84,35 +83,3 @@ module _ (a : Answer) where
       → l₀ ≡ [] → l₁ ≡ l₀ ++ refusedText → l₂ ≡ l₁ ++ decimal (a .number) → l₃ ≡ l₂ ++ (LF ∷ []) → l₃ ≡ firstLine a
   unfolding firstLine
   refused-said n e₀ e₁ e₂ e₃ = rw (ne-eqb (a .number) 0 n, e₃, e₂, e₁, e₀)
-
--- ALL LINES
-
--- what is printed for the numbers below n, one after the other
-pub joined : (ℕ → List ℕ) → ℕ → List ℕ
-joined line zero = []
-joined line (suc n) = joined line n ++ line n
-
-page-lines-snoc : (l : List ℕ) (x : ℕ) → pageLines (l ++ (x ∷ [])) ≡ pageLines l ++ pageLine x
-unfolding pageLines
-page-lines-snoc [] x = append-nil (pageLine x)
-page-lines-snoc (y ∷ l) x = ap (λ (t : List ℕ). pageLine y ++ t) (page-lines-snoc l x) ∙ sym (append-assoc (pageLine y) (pageLines l) (pageLine x))
-
-page-lines : (places : List ℕ) (n : ℕ) → n ≤ length places → joined (λ i. pageLine (getD places i 0)) n ≡ pageLines (take n places)
-unfolding pageLines joined
-page-lines places zero h = refl
-page-lines places (suc n) h =
-    ap (λ (t : List ℕ). t ++ pageLine (getD places n 0)) (page-lines places n (omega arith))
-    ∙ sym (page-lines-snoc (take n places) (getD places n 0))
-    ∙ ap pageLines (sym (take-suc places n 0 (omega arith)))
-
-take-min : (n : ℕ) (l : List ℕ) → take (min n (length l)) l ≡ take n l
-take-min zero l = rw zero-min
-take-min (suc n) [] = take-nil (min (suc n) 0)
-take-min (suc n) (x ∷ l) = rw suc-min-suc (ap (λ (t : List ℕ). x ∷ t) (take-min n l))
-
--- the first line, and then a line for each place of the page list below the number of pages, are the output
-pub output-is : (a : Answer) (places : List ℕ) (l : Line) → written l ≡ firstLine a
-    → written l ++ joined (λ i. pageLine (getD places i 0)) (min (a .pages) (length places)) ≡ output a places
-unfolding output
-output-is a places l e =
-    ap₂ _++_ e (page-lines places (min (a .pages) (length places)) (min-le-right _ _) ∙ ap pageLines (take-min (a .pages) places))

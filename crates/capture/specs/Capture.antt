@@ -49,8 +49,8 @@ heapLength s = numberAt s 63 4
 abbrev pub sinitLength : List ℕ → ℕ
 sinitLength s = numberAt s 67 4
 
-abbrev pub policyLength : List ℕ → ℕ
-policyLength s = numberAt s 71 4
+abbrev pub recordLength : List ℕ → ℕ
+recordLength s = numberAt s 71 4
 
 -- "the four parts; 75 bytes before the parts": where each begins
 abbrev pub windowAt : ℕ
@@ -62,14 +62,14 @@ heapAt s = windowAt + windowLength s
 abbrev pub sinitAt : List ℕ → ℕ
 sinitAt s = heapAt s + heapLength s
 
-abbrev pub policyAt : List ℕ → ℕ
-policyAt s = sinitAt s + sinitLength s
+abbrev pub recordAt : List ℕ → ℕ
+recordAt s = sinitAt s + sinitLength s
 
 abbrev pub endAt : List ℕ → ℕ
-endAt s = policyAt s + policyLength s
+endAt s = recordAt s + recordLength s
 
 abbrev pub offsetsOf : List ℕ → Offsets
-offsetsOf s = record { heap = heapAt s; sinit = sinitAt s; policy = policyAt s; end = endAt s }
+offsetsOf s = record { heap = heapAt s; sinit = sinitAt s; «policy_record» = recordAt s; end = endAt s }
 
 -- "at most 65,536 in all, nothing after"
 abbrev pub largest : ℕ
@@ -102,7 +102,7 @@ inputIn s places =
       window = take (windowLength s) (drop windowAt s);
       heap = take (heapLength s) (drop (heapAt s) s);
       sinit = take (sinitLength s) (drop (sinitAt s) s);
-      policy = take (policyLength s) (drop (policyAt s) s);
+      policyRecord = take (recordLength s) (drop (recordAt s) s);
       platform = platformOf s;
       places = places;
     }

@@ -1,9 +1,10 @@
 -- The text of the answer: the first line, and on permission a line for each page. Every line ends with LF.
-use Prim.Native.Nat.{ℕ, zero, suc, _+_, _-_, _/_, _%_}
-use mathlib.Core.Bool.{cond}
+use Prim.Native.Nat.{ℕ, zero, suc, _+_, _-_, _/_, _%_, _≤_}
+use mathlib.Core.Path.{_≡_}
+use mathlib.Core.Bool.{Bool, cond}
 use mathlib.Core.List.{List, [], _∷_, _++_}
-use lib.Dec.{ltb, eqb}
-use lib.ListN.{take}
+use lib.Dec.{leb, ltb, eqb}
+use lib.ListN.{length, take, drop}
 use Rattle.launch.specs.declared.Answer.{Answer}
 use Rattle.capture.specs.declared.text.Line.{Line}
 
@@ -71,6 +72,20 @@ pageLines (address ∷ rest) = pageLine address ++ pageLines rest
 -- the whole output: the first line, then a line for each of the first places of the page list, as many as there are pages
 unfoldable pub output : Answer → List ℕ → List ℕ
 output a places = firstLine a ++ pageLines (take (a .pages) places)
+
+-- the output at the front of a buffer, whose other bytes stay; a buffer without room for it stays as it is, and the length is then 0
+abbrev pub fits : Answer → List ℕ → List ℕ → Bool
+fits a places buffer = leb (length (output a places)) (length buffer)
+
+unfoldable pub outputLength : Answer → List ℕ → List ℕ → ℕ
+outputLength a places buffer = cond (fits a places buffer) (length (output a places)) 0
+
+unfoldable pub outputIn : Answer → List ℕ → List ℕ → List ℕ
+outputIn a places buffer = cond (fits a places buffer) (output a places ++ drop (length (output a places)) buffer) buffer
+
+-- n bytes at the front of a string are there. It follows from the two above, and spares a program that lends them a proof of its own
+abbrev pub Counted : ℕ → List ℕ → Type 0
+Counted n s = (n ≤ length s) × (n ≡ length (take n s))
 
 -- what a line's array says: its first `len` bytes. What is behind them is free
 abbrev pub written : Line → List ℕ

@@ -4,16 +4,13 @@ mod text;
 use field::number_or_zero;
 use launch::Answer;
 use launch::Platform;
-pub use text::Line;
-pub use text::first_line;
-pub use text::page_line;
+pub use text::output;
 ghost use mathlib.Core.Path.{_≡_};
 ghost use Prim.Native.Nat.{_<_, _≤_, _^_};
 ghost use lib.ListN.{length};
 ghost use Rattle.rules.specs.Rules.{all};
 ghost use Rattle.field.specs.Field.{numberAt};
-ghost use Rattle.launch.specs.Answer.{refused};
-ghost use Rattle.capture.specs.Capture.{platformOf, offsetsOf, captureTests, notCapture, captureAnswer, capturePlaces};
+ghost use Rattle.capture.specs.Capture.{platformOf, offsetsOf, captureTests, captureAnswer, capturePlaces};
 
 // The number of a string that is no capture.
 const NOT_CAPTURE: u32 = 30;
@@ -21,6 +18,14 @@ const NOT_CAPTURE: u32 = 30;
 const VERSION: u64 = 1;
 
 const LARGEST: usize = 65536;
+
+// What a program lends: a buffer for the input, a byte longer than a capture may be, so that a longer input is told from one; the places for pages;
+// and room for the text of the answer, the first line and a line for each page.
+pub const INPUT: usize = LARGEST + 1;
+
+pub const PLACES: usize = 4096;
+
+pub const OUTPUT: usize = 48 + 17 * PLACES;
 
 // The offset of the window.
 const WINDOW: usize = 75;
@@ -32,7 +37,7 @@ const HEAP_LENGTH: usize = 63;
 
 const SINIT_LENGTH: usize = 67;
 
-const POLICY_LENGTH: usize = 71;
+const RECORD_LENGTH: usize = 71;
 
 fn number16(s: &[u8], at: usize) -> u16
     ensures { λ r. ⌜ r ≡ numberAt (now (s .entry)) at 2 ⌝ }
@@ -66,21 +71,21 @@ fn platform(s: &[u8]) -> Platform
 pub struct Offsets {
     pub heap: usize,
     pub sinit: usize,
-    pub policy: usize,
+    pub policy_record: usize,
     pub end: usize,
 }
 
 fn offsets_in(s: &[u8]) -> Offsets
-    ensures { λ r. ⌜ (r ≡ offsetsOf (now (s .entry))) × (75 ≤ r .heap) × (r .heap ≤ r .sinit) × (r .sinit ≤ r .policy) × (r .policy ≤ r .end) ⌝ }
+    ensures { λ r. ⌜ (r ≡ offsetsOf (now (s .entry))) × (75 ≤ r .heap) × (r .heap ≤ r .sinit) × (r .sinit ≤ r .«policy_record») × (r .«policy_record» ≤ r .end) ⌝ }
 {
     let heap = WINDOW + length(s, WINDOW_LENGTH);
     let sinit = heap + length(s, HEAP_LENGTH);
-    let policy = sinit + length(s, SINIT_LENGTH);
-    let end = policy + length(s, POLICY_LENGTH);
+    let policy_record = sinit + length(s, SINIT_LENGTH);
+    let end = policy_record + length(s, RECORD_LENGTH);
     Offsets {
         heap,
         sinit,
-        policy,
+        policy_record,
         end,
     }
 }
@@ -104,36 +109,24 @@ pub fn holds(s: &[u8]) -> bool
     offsets_in(s).end == s.len()
 }
 
-// The answer where there is no capture, or none that could be read to its end.
-pub fn no_capture() -> Answer
-    ensures { λ r. ⌜ r ≡ refused notCapture ⌝ }
-{
-    Answer {
-        number: NOT_CAPTURE,
-        pages: 0,
-        list: 255,
-        digest: [0u8; 32],
-    }
-}
-
 // The answer for a capture, and on permission the addresses of the pages in the first places of the page list.
 pub fn check(s: &[u8], pages: &mut [u64]) -> Answer
     ensures answer { λ r. ⌜ r ≡ captureAnswer (now (s .entry)) (length (now (pages .entry))) ⌝ }
     ensures places { λ _. ⌜ now (pages .exit) ≡ capturePlaces (now (s .entry)) (now (pages .entry)) ⌝ }
 {
     if !holds(s) {
-        return no_capture();
+        return launch::refused(NOT_CAPTURE);
     }
     let at = offsets_in(s);
     let heap = at.heap;
     let sinit = at.sinit;
-    let policy = at.policy;
+    let policy_record = at.policy_record;
     let end = at.end;
     launch::check(
         &s[WINDOW..heap],
         &s[heap..sinit],
-        &s[sinit..policy],
-        &s[policy..end],
+        &s[sinit..policy_record],
+        &s[policy_record..end],
         platform(s),
         pages,
     )

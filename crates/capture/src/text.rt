@@ -1,17 +1,21 @@
-// The text of the answer: the first line, and the line of a page.
+// The text of the answer: the first line, the line of a page, and the whole output in a buffer that the caller lends.
 //
 // A line is written into an array by pieces, each behind the one before.
 use launch::Answer;
 ghost use mathlib.Core.Path.{_≡_};
 ghost use mathlib.Core.List.{[], _++_};
-ghost use Prim.Native.Nat.{_+_, _<_, _≤_};
-ghost use lib.ListN.{length, drop};
-ghost use Rattle.capture.specs.Text.{written, firstLine, pageLine};
+ghost use Prim.Native.Nat.{_+_, _*_, _<_, _≤_, min};
+ghost use lib.ListN.{length, take, drop};
+ghost use lib.Seq.{paste};
+ghost use Rattle.capture.specs.Text.{written, firstLine, pageLine, pageLines, outputLength, outputIn, Counted};
 ghost use Rattle.capture.specs.Text.{digit as Text·digit, hexDigit as Text·hexDigit, decimal as Text·decimal};
 
 const MOST_DIGITS: usize = 10;
 
 const ADDRESS_DIGITS: usize = 16;
+
+// The length of the line of a page.
+const PAGE_LINE: usize = 17;
 
 // A line of text: the first `len` bytes of the array. What is behind them is free.
 pub struct Line {
@@ -99,7 +103,7 @@ fn empty() -> Line
 }
 
 // The first line: what is answered, and on permission how many pages there are and which list permits.
-pub fn first_line(a: Answer) -> Line
+fn first_line(a: Answer) -> Line
     ensures { λ r. ⌜ (written r ≡ firstLine a) × (r .len ≤ 48) ⌝ }
 {
     if a.number == 0 {
@@ -112,7 +116,7 @@ pub fn first_line(a: Answer) -> Line
 }
 
 // The line of a page: its address.
-pub fn page_line(a: u64) -> [u8; 17]
+fn page_line(a: u64) -> [u8; 17]
     ensures { λ r. ⌜ r ≡ pageLine a ⌝ }
 {
     let mut bytes = [b'\n'; 17];
@@ -124,4 +128,75 @@ pub fn page_line(a: u64) -> [u8; 17]
         left = left / 16;
     }
     bytes
+}
+
+// Puts s into the buffer from `at` on.
+fn put(out: &mut [u8], at: usize, s: &[u8])
+    requires { ⌜ at + length (now s) ≤ length (now out) ⌝ }
+    ensures { λ _. ⌜ now (out .exit) ≡ paste (now (out .entry)) at (now (s .entry)) (length (now (s .entry))) ⌝ }
+{
+    let mut i: usize = 0;
+    while i < s.len() {
+        out[at + i] = s[i];
+        i += 1;
+    }
+}
+
+fn line_length(line: Line) -> usize
+    requires { ⌜ line .len ≤ 48 ⌝ }
+    ensures { λ r. ⌜ r ≡ length (written line) ⌝ }
+{
+    line.len
+}
+
+// Puts a line to the front of the buffer.
+fn put_line(out: &mut [u8], line: Line)
+    requires { ⌜ (line .len ≤ 48) × (length (written line) ≤ length (now out)) ⌝ }
+    ensures { λ _. ⌜ now (out .exit) ≡ paste (now (out .entry)) 0 (written line) (length (written line)) ⌝ }
+{
+    let bytes = line.bytes;
+    let len = line.len;
+    put(out, 0, &bytes[..len]);
+}
+
+// Puts the lines of the first n pages into the buffer from `at` on.
+fn put_pages(out: &mut [u8], at: usize, pages: &[u64], n: usize)
+    requires { ⌜ (n ≤ length (now pages)) × (at + 17 * n ≤ length (now out)) ⌝ }
+    ensures { λ _. ⌜ now (out .exit) ≡ paste (now (out .entry)) at (pageLines (take n (now (pages .entry)))) (17 * n) ⌝ }
+{
+    let mut i: usize = 0;
+    while i < n {
+        let line = page_line(pages[i]);
+        put(out, at + PAGE_LINE * i, &line);
+        i += 1;
+    }
+}
+
+// How many of the first places of a page list have pages.
+fn shown(a: Answer, pages: &[u64]) -> usize
+    ensures { λ r. ⌜ r ≡ min (a .pages) (length (now (pages .entry))) ⌝ }
+{
+    let n = a.pages as usize;
+    if n < pages.len() { n } else { pages.len() }
+}
+
+// Writes the output for an answer and a page list to the front of the buffer and gives its length. Where the buffer has no room for it, the buffer
+// stays as it is and the length is 0.
+pub fn output(a: Answer, pages: &[u64], out: &mut [u8]) -> usize
+    ensures length { λ r. ⌜ r ≡ outputLength a (now (pages .entry)) (now (out .entry)) ⌝ }
+    ensures text { λ _. ⌜ now (out .exit) ≡ outputIn a (now (pages .entry)) (now (out .entry)) ⌝ }
+    ensures counted { λ r. ⌜ Counted r (now (out .exit)) ⌝ }
+{
+    let line = first_line(a);
+    let len = line_length(line);
+    let n = shown(a, pages);
+    if out.len() < len {
+        return 0;
+    }
+    if (out.len() - len) / PAGE_LINE < n {
+        return 0;
+    }
+    put_line(out, line);
+    put_pages(out, len, pages, n);
+    len + PAGE_LINE * n
 }

@@ -1,11 +1,6 @@
-// A capture that is read from a descriptor, and the answer printed to one.
-use capture::Line;
-use launch::Answer;
-ghost use Prim.Native.Nat.{_≤_};
-ghost use Rattle.capture_io.specs.Input.{Checked};
-
-// A byte more than a capture may have, so that a longer input is told from one.
-const BUFFER: usize = 65537;
+// Reading a capture from a descriptor into a buffer that the caller lends. What the bytes are is the operating system's; what is answered for them is
+// said by the contracts of `capture`.
+ghost use Rattle.io.specs.Counts.{Counts};
 
 // Whether the input ends here. Where reading fails, that is not known, and it counts as no end.
 fn ended(fd: i32) -> bool {
@@ -13,34 +8,13 @@ fn ended(fd: i32) -> bool {
     libc::read(fd, &mut next) == 0
 }
 
-// The answer for what is read from a descriptor. What cannot be read to its end is no capture.
-pub fn check(fd: i32, pages: &mut [u64]) -> Answer
-    ensures { λ r. ⌜ Checked (now (pages .entry)) (now (pages .exit)) r ⌝ }
+// How many bytes at the front of the buffer are the whole input; 0, and so no capture, where the input was not read to its end.
+pub fn read_whole(fd: i32, buffer: &mut [u8]) -> usize
+    ensures { λ r. ⌜ Counts r (now (buffer .exit)) ⌝ }
 {
-    let mut buffer = [0u8; BUFFER];
-    let n = io::read_full(fd, &mut buffer);
+    let n = io::read_full(fd, buffer);
     if !ended(fd) {
-        return capture::no_capture();
+        return 0;
     }
-    capture::check(&buffer[..n], pages)
-}
-
-fn print_line(fd: i32, line: Line)
-    requires { ⌜ line .len ≤ 48 ⌝ }
-{
-    let bytes = line.bytes;
-    let len = line.len;
-    io::write_all(fd, &bytes[..len]);
-}
-
-// Prints the answer to a descriptor: the first line, and a line for each of the first places of the page list, as many as there are pages.
-// What becomes of the text is the operating system's.
-pub fn print(fd: i32, a: Answer, pages: &[u64]) {
-    print_line(fd, capture::first_line(a));
-    let mut i = 0;
-    while i < pages.len() && i < a.pages as usize {
-        let line = capture::page_line(pages[i]);
-        io::write_all(fd, &line);
-        i += 1;
-    }
+    n
 }

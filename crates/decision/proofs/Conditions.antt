@@ -3,10 +3,11 @@ use mathlib.Core.Bool.{_||_}
 use borrow.Author.Tests.{leb-true, le-leb, eqb-true, eq-eqb}
 use Rattle.range.proofs.Ranges.{inside-bounds}
 use Rattle.rules.proofs.Tests.{_&_, each, eqb-exactly, leb-exactly, or-exactly, where-holds}
-use Rattle.decision.specs.Record.{recordTests, policyType, LIST, ANY, bit, control, productionWorthy, versionReached}
+use Rattle.decision.specs.Record.{recordTests, policyType, LIST, ANY, bit, control, worthyOrAllowed, versionReached}
 use Rattle.decision.specs.Lists.{filePlaced, hashOf, hashMatches}
-use Rattle.decision.specs.Meaning.{RecordExactly, WorthyExactly, ReachedExactly, PlacedExactly, HashExactly}
+use Rattle.decision.specs.Meaning.{RecordExactly, WorthyOrAllowedExactly, ReachedExactly, PlacedExactly, HashExactly}
 use Rattle.decision.proofs.Marks.{same-exactly}
+use Rattle.decision.proofs.Readings.{lists-exactly}
 
 pub record-exactly : RecordExactly
 unfolding recordTests
@@ -23,9 +24,9 @@ record-exactly r =
       λ h. each _ .1 (eq-eqb _ _ (h .size) & eq-eqb _ _ (h .version) & eq-eqb _ _ (h .algorithm) & type .1 (h .type) & tt),
     )
 
-pub worthy-exactly : WorthyExactly
-unfolding productionWorthy
-worthy-exactly flags r =
+pub worthy-or-allowed-exactly : WorthyOrAllowedExactly
+unfolding worthyOrAllowed
+worthy-or-allowed-exactly flags r =
     where-holds (bit 14 flags || bit 15 flags) (bit 1 (control r)) (or-exactly (eqb-exactly _ _) (eqb-exactly _ _)) (eqb-exactly _ _)
 
 pub reached-exactly : ReachedExactly
@@ -44,4 +45,4 @@ placed-exactly w window base size = (
 
 pub hash-exactly : HashExactly
 unfolding hashMatches hashOf
-hash-exactly file r = same-exactly _ _
+hash-exactly file r reading reads = rw (lists-exactly file reading reads) (same-exactly _ _)

@@ -11,10 +11,9 @@ use Rattle.policy.specs.Grammar.{Signing, PolicyList}
 use Rattle.policy.specs.Grammar as Grammar
 use Rattle.policy.specs.Demand3.{seenList, listPart}
 use Rattle.policy.proofs.Standing as kinds
-use Rattle.policy.proofs.Walk.{list-seen}
+use Rattle.policy.proofs.Walk.{Turn, list-seen}
 use Rattle.decision.specs.Lists.{measuredBytes, measure, hashOf}
 use Rattle.decision.specs.Inner.{measuredIn, measuredSeen}
-use Rattle.decision.proofs.Walking.{Turn}
 
 -- what is measured where a list stands is what is measured of it
 measured-is : (l : PolicyList) (g : Signing) → measuredIn (listPart l) g ≡ measuredBytes l g

@@ -13,24 +13,24 @@ use Rattle.policy.specs.Grammar as Grammar
 use Rattle.policy.specs.Answers.{signingShown}
 use Rattle.policy.specs.Demand3.{seenElement}
 use Rattle.policy.proofs.Standing as kinds
-use Rattle.policy.proofs.Walk.{element-seen, elements-within, elements-stand}
+use Rattle.policy.proofs.Walk.{Turn, element-seen, elements-within, elements-stand}
+use Rattle.decision.specs.declared.Criteria.{Criteria}
 use Rattle.decision.specs.Lists.{every, any, judged, names, permits}
 use Rattle.decision.specs.Inner.{judgedAnswer, namesSeen, Counted, ElementsStand, ListStands}
-use Rattle.decision.proofs.Walking.{Turn}
 use Rattle.decision.proofs.Naming.{judged-is, counted-is}
 
-pub record Judging (digest : List ℕ) (acm : ℕ) (es : List Element) (found : Bool) (rest : List Element) : Type 0 where
-  pub same : (every judged es && any (names digest acm) es) ≡ (every judged rest && (found || any (names digest acm) rest))
+pub record Judging (k : Criteria) (es : List Element) (found : Bool) (rest : List Element) : Type 0 where
+  pub same : (every judged es && any (names k) es) ≡ (every judged rest && (found || any (names k) rest))
 
-module _ (digest : List ℕ) (acm : ℕ) (es : List Element) where
-  pub judging-start : Judging digest acm es false es
+module _ (k : Criteria) (es : List Element) where
+  pub judging-start : Judging k es false es
   judging-start = record { same = refl }
 
-  pub judging-end : (found : Bool) → Judging digest acm es found [] → found ≡ (every judged es && any (names digest acm) es)
+  pub judging-end : (found : Bool) → Judging k es found [] → found ≡ (every judged es && any (names k) es)
   judging-end found h = sym (h .same ∙ or-false found)
 
   -- one element, by the answers for it
-  module _ (t : List ℕ) (at : ℕ) (found : Bool) (e : ElementAnswer) (turn : Turn kinds.element t at (Judging digest acm es found) e) where
+  module _ (t : List ℕ) (at : ℕ) (found : Bool) (e : ElementAnswer) (turn : Turn kinds.element t at (Judging k es found) e) where
     pub fits : Counted e
     fits = rw (turn .shown) (counted-is at (turn .first) (turn .valid .0))
 
@@ -38,23 +38,23 @@ module _ (digest : List ℕ) (acm : ℕ) (es : List Element) where
       j-is : j ≡ judged (turn .first)
       j-is = ej ∙ ap judgedAnswer (turn .shown) ∙ judged-is at (turn .first) (turn .valid .0)
 
-      pub unjudged : j ≡ false → false ≡ (every judged es && any (names digest acm) es)
+      pub unjudged : j ≡ false → false ≡ (every judged es && any (names k) es)
       unjudged h = sym (turn .kept .same ∙ rw (sym j-is ∙ h))
 
       reorder : (f n a : Bool) → (f || (n || a)) ≡ ((n || f) || a)
       reorder true n a = rw (or-true n)
       reorder false n a = rw (or-false n)
 
-      pub judging-step : j ≡ true → (n : Bool) → n ≡ namesSeen digest acm (seenElement t e) → (found′ : Bool) → found′ ≡ (n || found)
-          → Judging digest acm es found′ (turn .others)
+      pub judging-step : j ≡ true → (n : Bool) → n ≡ namesSeen k (seenElement t e) → (found′ : Bool) → found′ ≡ (n || found)
+          → Judging k es found′ (turn .others)
       judging-step h n en found′ ef =
           let x = turn .first in
-          let n-is : n ≡ names digest acm x = en ∙ ap (namesSeen digest acm) (ap (seenElement t) (turn .shown) ∙ element-seen t at x (turn .others) (turn .valid) (turn .stand)) in
+          let n-is : n ≡ names k x = en ∙ ap (namesSeen k) (ap (seenElement t) (turn .shown) ∙ element-seen t at x (turn .others) (turn .valid) (turn .stand)) in
           record {
             same =
                 turn .kept .same
                 ∙ rw (sym j-is ∙ h, ← n-is, ef)
-                (ap (λ (b : Bool). every judged (turn .others) && b) (reorder found n (any (names digest acm) (turn .others))));
+                (ap (λ (b : Bool). every judged (turn .others) && b) (reorder found n (any (names k) (turn .others))));
           }
 
 -- A LIST
@@ -95,16 +95,16 @@ module _ (s : List ℕ) (l : ListAnswer) (x : PolicyList) (h : ListStands s l x)
           let e = shown-is (Grammar.signed g) i in
           let z : _≡_ {A = ℕ} 0 1 = cc in absurd (omega arith)
 
-  pub unsigned-permits : (digest : List ℕ) (acm start n : ℕ) → Unsigned s x start n → (r : Bool)
-      → r ≡ (every judged (x .elements) && any (names digest acm) (x .elements)) → r ≡ permits digest acm x
+  pub unsigned-permits : (k : Criteria) (start n : ℕ) → Unsigned s x start n → (r : Bool)
+      → r ≡ (every judged (x .elements) && any (names k) (x .elements)) → (i : ℕ) → r ≡ permits k i x
   unfolding permits
-  unsigned-permits digest acm start n u r e = rw (u .signing) e
+  unsigned-permits k start n u r e i = rw (u .signing) e
 
   -- a signed list does not permit, and no list stands where the answer is that there is none
-  pub signed-list : (digest : List ℕ) (acm : ℕ) (v : ListAnswer) → l ≡ v → isUnsigned v ≡ false → false ≡ permits digest acm x
+  pub signed-list : (k : Criteria) (i : ℕ) (v : ListAnswer) → l ≡ v → isUnsigned v ≡ false → false ≡ permits k i x
   unfolding permits
-  signed-list digest acm v q h = go (x .signing) refl
+  signed-list k i v q h = go (x .signing) refl
     where
-      go : (g : Signing) → x .signing ≡ g → false ≡ permits digest acm x
-      go Grammar.unsigned i = absurd (true≢false (sym (ap isUnsigned (shown-is Grammar.unsigned i)) ∙ ap isUnsigned q ∙ h))
-      go (Grammar.signed g) i = rw i
+      go : (g : Signing) → x .signing ≡ g → false ≡ permits k i x
+      go Grammar.unsigned s = absurd (true≢false (sym (ap isUnsigned (shown-is Grammar.unsigned s)) ∙ ap isUnsigned q ∙ h))
+      go (Grammar.signed g) s = rw s

@@ -9,42 +9,43 @@ use Rattle.policy.specs.declared.ListAnswer.{ListAnswer}
 use Rattle.policy.specs.Grammar.{PolicyList, Reading}
 use Rattle.policy.specs.Decode.{accepted}
 use Rattle.policy.proofs.Standing as kinds
+use Rattle.policy.proofs.Walk.{Turn}
+use Rattle.decision.specs.declared.Criteria.{Criteria}
 use Rattle.decision.specs.Lists.{isSome, ofGrammar, permits, noList, lowestFrom, lowestPermitting}
 use Rattle.decision.specs.Inner.{ListStands}
-use Rattle.decision.proofs.Walking.{Turn}
 
-pub record Lowest (digest : List ℕ) (acm : ℕ) (all : List PolicyList) (i : ℕ) (rest : List PolicyList) : Type 0 where
-  pub same : lowestFrom 0 (permits digest acm) all ≡ lowestFrom i (permits digest acm) rest
+pub record Lowest (k : Criteria) (all : List PolicyList) (i : ℕ) (rest : List PolicyList) : Type 0 where
+  pub same : lowestFrom 0 (permits k) all ≡ lowestFrom i (permits k) rest
 
 pub list-stands : (s : List ℕ) (at : ℕ) (Kept : List PolicyList → Type 0) (e : ListAnswer) (t : Turn kinds.list s at Kept e) → ListStands s e (t .first)
 list-stands s at Kept e t = record { at = at; others = t .others; valid = t .valid; stand = t .stand; shown = t .shown }
 
-module _ (digest : List ℕ) (acm : ℕ) (all : List PolicyList) where
-  pub lowest-start : Lowest digest acm all 0 all
+module _ (k : Criteria) (all : List PolicyList) where
+  pub lowest-start : Lowest k all 0 all
   lowest-start = record { same = refl }
 
-  pub lowest-end : (i : ℕ) → Lowest digest acm all i [] → noList ≡ lowestFrom 0 (permits digest acm) all
+  pub lowest-end : (i : ℕ) → Lowest k all i [] → noList ≡ lowestFrom 0 (permits k) all
   unfolding lowestFrom
   lowest-end i h = sym (h .same)
 
-  module _ (s : List ℕ) (at i : ℕ) (e : ListAnswer) (t : Turn kinds.list s at (Lowest digest acm all i) e) (r : Bool)
-      (is : (x : PolicyList) → ListStands s e x → r ≡ permits digest acm x) where
-    r-is : r ≡ permits digest acm (t .first)
-    r-is = is (t .first) (list-stands s at (Lowest digest acm all i) e t)
+  module _ (s : List ℕ) (at i : ℕ) (e : ListAnswer) (t : Turn kinds.list s at (Lowest k all i) e) (r : Bool)
+      (is : (x : PolicyList) → ListStands s e x → r ≡ permits k i x) where
+    r-is : r ≡ permits k i (t .first)
+    r-is = is (t .first) (list-stands s at (Lowest k all i) e t)
 
-    pub this-permits : r ≡ true → i ≡ lowestFrom 0 (permits digest acm) all
+    pub this-permits : r ≡ true → i ≡ lowestFrom 0 (permits k) all
     unfolding lowestFrom
     this-permits h = sym (t .kept .same ∙ rw (sym r-is ∙ h))
 
-    pub this-does-not : r ≡ false → Lowest digest acm all (i + 1) (t .others)
+    pub this-does-not : r ≡ false → Lowest k all (i + 1) (t .others)
     unfolding lowestFrom
     this-does-not h = record { same = t .kept .same ∙ rw (sym r-is ∙ h, add-one) }
 
 -- a file that is not of the grammar has no lists
-pub none-permits : (s digest : List ℕ) (acm : ℕ) → ofGrammar s ≡ false → noList ≡ lowestPermitting s digest acm
+pub none-permits : (s : List ℕ) (k : Criteria) → ofGrammar s ≡ false → noList ≡ lowestPermitting s k
 unfolding ofGrammar lowestFrom lowestPermitting
-none-permits s digest acm h = go (accepted s) refl
+none-permits s k h = go (accepted s) refl
   where
-    go : (o : Option Reading) → accepted s ≡ o → noList ≡ lowestPermitting s digest acm
+    go : (o : Option Reading) → accepted s ≡ o → noList ≡ lowestPermitting s k
     go none e = rw e
     go (some r) e = absurd (true≢false (sym (ap isSome e) ∙ h))

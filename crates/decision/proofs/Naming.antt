@@ -16,36 +16,37 @@ use Rattle.policy.specs.Grammar as Grammar
 use Rattle.policy.specs.Answers.{elementShown}
 use Rattle.policy.specs.Parts.{partAt}
 use Rattle.policy.specs.Demand3.{pieces, seenElement}
+use Rattle.decision.specs.declared.Criteria.{Criteria}
 use Rattle.decision.specs.Lists.{any, launchType, customType, judged, names}
 use Rattle.decision.specs.Inner.{judgedAnswer, namesSeen, Counted}
 
 -- an element of another type names nothing
-pub other-case : (digest t : List ℕ) (acm : ℕ) {e v : ElementAnswer} → e ≡ v → false ≡ namesSeen digest acm (seenElement t v) → false ≡ namesSeen digest acm (seenElement t e)
-other-case digest t acm q h = rw q h
+pub other-case : (k : Criteria) (t : List ℕ) {e v : ElementAnswer} → e ≡ v → false ≡ namesSeen k (seenElement t v) → false ≡ namesSeen k (seenElement t e)
+other-case k t q h = rw q h
 
 -- a launch element
-module _ (digest t : List ℕ) (acm : ℕ) (e : ElementAnswer) (start size control m v a n : ℕ) (q : e ≡ elements.Launch start size control m v a n) where
+module _ (k : Criteria) (t : List ℕ) (e : ElementAnswer) (start size control m v a n : ℕ) (q : e ≡ elements.Launch start size control m v a n) where
   pub count-fits : Counted e → n < 2 ^ 16
   count-fits h = rw q at h
 
-  pub other-algorithm : (a ≡ 0x000B → ⊥) → false ≡ namesSeen digest acm (seenElement t e)
+  pub other-algorithm : (a ≡ 0x000B → ⊥) → false ≡ namesSeen k (seenElement t e)
   unfolding names
   other-algorithm h = rw (q, ne-eqb a 0x000B h)
 
-  pub later-version : a ≡ 0x000B → acm < m → false ≡ namesSeen digest acm (seenElement t e)
+  pub later-version : a ≡ 0x000B → k .«acm_version» < m → false ≡ namesSeen k (seenElement t e)
   unfolding names
-  later-version h l = rw (q, eq-eqb a 0x000B h, lt-leb m acm l) (sym (and-false (any (same digest) (pieces n (digestLength a) (drop 18 (partAt t start size))))))
+  later-version h l = rw (q, eq-eqb a 0x000B h, lt-leb m (k .«acm_version») l) (sym (and-false (any (same (k .digest)) (pieces n (digestLength a) (drop 18 (partAt t start size))))))
 
   digests-are : a ≡ 0x000B → pieces n (digestLength a) (drop 18 (partAt t start size)) ≡ pieces n 32 (drop 6 (drop 12 (partAt t start size)))
   unfolding digestLength
   digests-are h = rw h (ap (pieces n 32) (sym (drop-drop 6 12 (partAt t start size))))
 
-  pub asked : a ≡ 0x000B → m ≤ acm → (b : List ℕ) (r : Bool) → b ≡ drop 12 (partAt t start size) → r ≡ any (same digest) (pieces n 32 (drop 6 b)) → r ≡ namesSeen digest acm (seenElement t e)
+  pub asked : a ≡ 0x000B → m ≤ k .«acm_version» → (b : List ℕ) (r : Bool) → b ≡ drop 12 (partAt t start size) → r ≡ any (same (k .digest)) (pieces n 32 (drop 6 b)) → r ≡ namesSeen k (seenElement t e)
   unfolding names
   asked h l b r body is =
-      let some-of : List (List ℕ) → Bool = any (same digest) in
+      let some-of : List (List ℕ) → Bool = any (same (k .digest)) in
       let all : List (List ℕ) = pieces n (digestLength a) (drop 18 (partAt t start size)) in
-      is ∙ rw body (ap some-of (sym (digests-are h))) ∙ sym (and-true (some-of all)) ∙ rw (q, eq-eqb a 0x000B h, le-leb m acm l)
+      is ∙ rw body (ap some-of (sym (digests-are h))) ∙ sym (and-true (some-of all)) ∙ rw (q, eq-eqb a 0x000B h, le-leb m (k .«acm_version») l)
 
 -- THE ANSWER FOR AN ELEMENT THAT STANDS IN A STRING
 
@@ -76,5 +77,5 @@ module _ (at : ℕ) (x : Element) (v : ValidElement x) where
       go : (b : Body) → x .body ≡ b → ValidBody (x .type) (x .body) → Counted (elementShown at (some x))
       go (Grammar.launch b) i w =
           let u : ValidBody (x .type) (Grammar.launch b) = rw i at w in
-          rw i (u .1 .count-fits)
+          rw i (u .1 .digests-valid .count-fits)
       go (Grammar.other b) i w = rw i (on (eqb (x .type) customType))

@@ -1,37 +1,38 @@
 -- Rule 29: the test of a list says what the propositions of specs/Meaning.antt say, and so does the number of the list that is reported.
-use Prim.Native.Nat.{ℕ, _≤_, _<_}
+use Prim.Native.Nat.{ℕ, _+_, _≤_, _<_}
 use mathlib.Core.Path.{_≡_, refl, ap, sym, _∙_}
-use mathlib.Core.Logic.{_↔_, _⊎_, ⊎-elim}
+use mathlib.Core.Logic.{_↔_, _≢_, _⊎_, ⊎-elim}
 use mathlib.Core.Bool.{Bool, true, false, true≢false}
 use mathlib.Core.List.{List}
 use mathlib.Core.Option.{some}
 use native.Mathlib.Omega.{arith}
-use lib.ListN.{getElem?}
+use lib.ListN.{length, getElem?}
 use Rattle.field.specs.Number.{Bytes}
 use Rattle.field.specs.Field.{same}
-use Rattle.policy.specs.Grammar.{Body, Launch, Element, Signing, PolicyList}
+use Rattle.policy.specs.Grammar.{Body, Launch, Element, Signing, PolicyList, Reading}
 use Rattle.policy.specs.Grammar as Grammar
+use Rattle.decision.specs.declared.Criteria.{Criteria}
 use Rattle.decision.specs.Record.{sha256Alg}
-use Rattle.decision.specs.Lists.{listsOf, launchType, customType, unsigned, judged, launchNames, names, permits, somePermits, noList, lowestPermitting}
-use Rattle.decision.specs.Meaning.{Names, Permits, PermitsAt, SomePermits, Lowest, PermitsExactly, LowestExactly, BodyFree}
+use Rattle.decision.specs.Lists.{listsOf, launchType, customType, unsigned, judged, launchNames, names, permits, someFrom, somePermits, noList, lowestFrom, lowestPermitting}
+use Rattle.decision.specs.Meaning.{Names, Permits, PermitsAt, SomePermits, Lowest, Reads, PermitsExactly, LowestExactly, BodyFree}
 use Rattle.rules.proofs.Tests.{eqb-exactly, leb-exactly, or-exactly, and-exactly}
 use Rattle.decision.proofs.Members.{Member, every-exactly, any-exactly, Reported, Unreported, lowest-is}
 use Rattle.decision.proofs.Marks.{same-exactly}
-use Rattle.decision.proofs.Readings.{few}
+use Rattle.decision.proofs.Readings.{lists-exactly, few, lists-few}
 
-launch-exactly : (digest : List ℕ) (acm : ℕ) (b : Launch)
-    → (launchNames digest acm b ≡ true)
-    ↔ ((b .hashAlg ≡ sha256Alg) × (Member (λ (d : List ℕ). digest ≡ d) (b .digests) × (b .sinitMinVersion ≤ acm)))
-launch-exactly digest acm b =
-    and-exactly (eqb-exactly _ _) (and-exactly (any-exactly (same digest) (λ (d : List ℕ). digest ≡ d) (same-exactly digest) (b .digests)) (leb-exactly _ _))
+launch-exactly : (k : Criteria) (b : Launch)
+    → (launchNames k b ≡ true)
+    ↔ ((b .digests .hashAlg ≡ sha256Alg) × (Member (λ (d : List ℕ). k .digest ≡ d) (b .digests .digests) × (b .sinitMinVersion ≤ k .«acm_version»)))
+launch-exactly k b =
+    and-exactly (eqb-exactly _ _) (and-exactly (any-exactly (same (k .digest)) (λ (d : List ℕ). k .digest ≡ d) (same-exactly (k .digest)) (b .digests .digests)) (leb-exactly _ _))
 
-names-exactly : (digest : List ℕ) (acm : ℕ) (e : Element) → (names digest acm e ≡ true) ↔ Names digest acm e
+names-exactly : (k : Criteria) (e : Element) → (names k e ≡ true) ↔ Names k e
 unfolding names
-names-exactly digest acm e = go (e .body) refl
+names-exactly k e = go (e .body) refl
   where
-    go : (body : Body) → e .body ≡ body → (names digest acm e ≡ true) ↔ Names digest acm e
+    go : (body : Body) → e .body ≡ body → (names k e ≡ true) ↔ Names k e
     go (Grammar.launch b) i =
-        let x = launch-exactly digest acm b in (
+        let x = launch-exactly k b in (
           λ t.
               let w = x .0 (rw i at t) in
               record {
@@ -43,28 +44,28 @@ names-exactly digest acm e = go (e .body) refl
                 version = w .1 .1;
               },
           λ n.
-              let q : n .launch ≡ b = (let k = n .body in cc) in
+              let q : n .launch ≡ b = (let is = n .body in cc) in
               rw i (x .1 (
                 rw (← q) (n .algorithm),
-                (record { place = n .place; value = digest; stands = rw (← q) (n .named); holds = refl }, rw (← q) (n .version)),
+                (record { place = n .place; value = k .digest; stands = rw (← q) (n .named); holds = refl }, rw (← q) (n .version)),
               )),
         )
     go (Grammar.other b) i = (
       λ t. absurd (true≢false (sym t ∙ rw i)),
-      λ n. (let k = n .body in let z : _≡_ {A = ℕ} 0 1 = cc in absurd (omega arith)),
+      λ n. (let is = n .body in let z : _≡_ {A = ℕ} 0 1 = cc in absurd (omega arith)),
     )
 
 unsigned-exactly : (g : Signing) → (unsigned g ≡ true) ↔ (g ≡ Grammar.unsigned)
 unsigned-exactly Grammar.unsigned = (λ e. refl, λ e. refl)
 unsigned-exactly (Grammar.signed g) = (λ e. absurd (true≢false (sym e)), λ e. (let z : _≡_ {A = ℕ} 0 1 = cc in absurd (omega arith)))
 
-list-exactly : (digest : List ℕ) (acm : ℕ) (l : PolicyList) → (permits digest acm l ≡ true) ↔ Permits digest acm l
+list-exactly : (k : Criteria) (i : ℕ) (l : PolicyList) → (permits k i l ≡ true) ↔ Permits k i l
 unfolding permits
-list-exactly digest acm l =
+list-exactly k i l =
     let x =
     and-exactly (unsigned-exactly (l .signing))
     (and-exactly (every-exactly judged (λ (e : Element). (e .type ≡ launchType) ⊎ (e .type ≡ customType)) (λ e. or-exactly (eqb-exactly _ _) (eqb-exactly _ _)) (l .elements))
-    (any-exactly (names digest acm) (Names digest acm) (names-exactly digest acm) (l .elements))) in (
+    (any-exactly (names k) (Names k) (names-exactly k) (l .elements))) in (
       λ t.
           let w = x .0 t in
           let m = w .1 .1 in
@@ -72,62 +73,82 @@ list-exactly digest acm l =
       λ p. x .1 (p .unsigned, (p .judged, record { place = p .element; value = p .found; stands = p .stands; holds = p .names })),
     )
 
-pub permits-exactly : PermitsExactly
-unfolding somePermits
-permits-exactly file digest acm =
-    let x = any-exactly (permits digest acm) (Permits digest acm) (list-exactly digest acm) (listsOf file) in (
-      λ t. let m = x .0 t in record { index = m .place; permits = record { list = m .value; stands = m .stands; permits = m .holds } },
-      λ p. (let a = p .permits in x .1 (record { place = p .index; value = a .list; stands = a .stands; holds = a .permits })),
-    )
+-- THE LISTS OF A READING: at most 8, so none has the number 255
 
--- the list that is reported: a file has at most 8 lists, so none has the number 255
-module _ (file digest : List ℕ) (acm : ℕ) (b : Bytes file) where
-  abbrev test : PolicyList → Bool
-  test = permits digest acm
+module _ (k : Criteria) (reading : Reading) (few : length (reading .lists) ≤ 8) where
+  abbrev ls : List PolicyList
+  ls = reading .lists
 
   -- a list that fails does not permit
-  fails : (i : ℕ) → ((l : PolicyList) → getElem? (listsOf file) i ≡ some l → test l ≡ false) → PermitsAt file digest acm i → ⊥
-  fails i h p = true≢false (sym (list-exactly digest acm (p .list) .1 (p .permits)) ∙ h (p .list) (p .stands))
+  fails : (i : ℕ) → ((l : PolicyList) → getElem? ls i ≡ some l → permits k i l ≡ false) → PermitsAt reading k i → ⊥
+  fails i h p = true≢false (sym (list-exactly k i (p .list) .1 (p .permits)) ∙ h (p .list) (p .stands))
 
-  abbrev Exactly : Type 0
-  Exactly =
-      ((i : ℕ) → i < noList → (lowestPermitting file digest acm ≡ i) ↔ Lowest file digest acm i)
-      × ((lowestPermitting file digest acm ≡ noList) ↔ (SomePermits file digest acm → ⊥))
+  from-0 : (j : ℕ) (l : PolicyList) (t : Bool) → permits k (0 + j) l ≡ t → permits k j l ≡ t
+  from-0 j l t e = let z : 0 + j ≡ j = omega arith in rw z at e
 
-  reported : Reported test 0 (listsOf file) → Exactly
-  unfolding lowestPermitting
+  pub record Exactly : Type 0 where
+    pub some : (someFrom 0 (permits k) ls ≡ true) ↔ SomePermits reading k
+    pub number : (i : ℕ) → i < noList → (lowestFrom 0 (permits k) ls ≡ i) ↔ Lowest reading k i
+    pub none : (lowestFrom 0 (permits k) ls ≡ noList) ↔ (SomePermits reading k → ⊥)
+
+  reported : Reported (permits k) 0 ls → Exactly
   reported r =
-      let bound = few file b in
       let first = r .first in
-      let here : PermitsAt file digest acm (r .place) = record { list = first .value; stands = first .stands; permits = list-exactly digest acm (first .value) .0 (first .passes) } in
-      let lower : (j : ℕ) → j < r .place → PermitsAt file digest acm j → ⊥ = λ j h. fails j (λ l q. first .before j l h q) in (
-        λ i h. (
+      let here : PermitsAt reading k (r .place) = record { list = first .value; stands = first .stands; permits = list-exactly k (r .place) (first .value) .0 (from-0 (r .place) (first .value) true (first .passes)) } in
+      let lower : (j : ℕ) → j < r .place → PermitsAt reading k j → ⊥ = λ j h. fails j (λ l q. from-0 j l false (first .before j l h q)) in
+      let some : SomePermits reading k = record { index = r .place; permits = here } in
+      record {
+        some = (λ e. some, λ p. r .passes);
+        number = λ i h. (
           λ e. (let q : r .place ≡ i = omega (arith, r .number) in rw (← q) (record { permits = here; lowest = lower })),
           λ w.
               let not-below : r .place < i → ⊥ = λ l. w .lowest (r .place) l here in
               let not-above : i < r .place → ⊥ = λ l. lower i l (w .permits) in
               omega (arith, r .number),
-        ),
-        (λ e. absurd (omega (arith, r .number, r .below)), λ never. absurd (never (record { index = r .place; permits = here }))),
-      )
+        );
+        none = (λ e. absurd (omega (arith, r .number, r .below)), λ never. absurd (never some));
+      }
 
-  unreported : Unreported test 0 (listsOf file) → Exactly
-  unfolding lowestPermitting
-  unreported u = (
-    λ i h. (λ e. absurd (omega (arith, u .number)), λ w. absurd (fails i (u .fail i) (w .permits))),
-    (λ e p. fails (p .index) (u .fail (p .index)) (p .permits), λ never. u .number),
-  )
+  unreported : Unreported (permits k) 0 ls → Exactly
+  unreported u =
+      record {
+        some = (λ e. absurd (true≢false (sym e ∙ u .fails)), λ p. absurd (fails (p .index) (λ l q. from-0 (p .index) l false (u .fail (p .index) l q)) (p .permits)));
+        number = λ i h. (λ e. absurd (omega (arith, u .number)), λ w. absurd (fails i (λ l q. from-0 i l false (u .fail i l q)) (w .permits)));
+        none = (λ e p. fails (p .index) (λ l q. from-0 (p .index) l false (u .fail (p .index) l q)) (p .permits), λ never. u .number);
+      }
+
+  exactly : Exactly
+  exactly = ⊎-elim reported unreported (lowest-is (permits k) 0 ls)
+
+  -- no list has a number over 255
+  most : lowestFrom 0 (permits k) ls ≤ noList
+  most = ⊎-elim (λ r. omega (arith, r .number, r .below)) (λ u. omega (arith, u .number)) (lowest-is (permits k) 0 ls)
+
+-- THE FILE OF A READING
+
+pub permits-exactly : PermitsExactly
+unfolding somePermits
+permits-exactly file k reading reads = rw (lists-exactly file reading reads) (exactly k reading (few reads) .some)
 
 pub lowest-exactly : LowestExactly
-lowest-exactly file digest acm b =
-    ⊎-elim (reported file digest acm b) (unreported file digest acm b) (lowest-is (permits digest acm) 0 (listsOf file))
-
--- no list has a number over 255
-pub lowest-most : (file digest : List ℕ) (acm : ℕ) → Bytes file → lowestPermitting file digest acm ≤ noList
 unfolding lowestPermitting
-lowest-most file digest acm b =
-    ⊎-elim (λ r. omega (arith, r .number, r .below, few file b)) (λ u. omega (arith, u .number)) (lowest-is (permits digest acm) 0 (listsOf file))
+lowest-exactly file k reading reads =
+    let x = exactly k reading (few reads) in
+    rw (lists-exactly file reading reads) (x .number, x .none)
+
+pub lowest-most : (file : List ℕ) (k : Criteria) (reading : Reading) → Reads file reading → lowestPermitting file k ≤ noList
+unfolding lowestPermitting
+lowest-most file k reading reads = rw (lists-exactly file reading reads) (most k reading (few reads))
+
+-- a list is reported exactly where some list permits, whatever the file is
+pub reported-exactly : (file : List ℕ) (k : Criteria) → Bytes file → (somePermits file k ≡ true) ↔ (lowestPermitting file k ≢ noList)
+unfolding somePermits lowestPermitting
+reported-exactly file k b =
+    ⊎-elim
+    (λ r. (λ e z. omega (arith, r .number, r .below, lists-few file b), λ h. r .passes))
+    (λ u. (λ e z. true≢false (sym e ∙ u .fails), λ h. absurd (h (u .number))))
+    (lowest-is (permits k) 0 (listsOf file))
 
 pub body-free : BodyFree
 unfolding names
-body-free digest acm type size control size′ control′ b b′ = (refl, refl)
+body-free k type size control size′ control′ b b′ = (refl, refl)

@@ -18,7 +18,7 @@ use Rattle.decision.specs.declared.RecordAnswer.the-variants as answers
 use Rattle.decision.specs.Record.{policyType, LIST, recordRules}
 use Rattle.decision.specs.Answers.{kindOf, numberOf, recordOf}
 use Rattle.decision.specs.Meaning.{recordMeanings, AnswerExactly}
-use Rattle.decision.proofs.Conditions.{record-exactly, worthy-exactly, reached-exactly}
+use Rattle.decision.proofs.Conditions.{record-exactly, worthy-or-allowed-exactly, reached-exactly}
 
 different : {A : Type 0} → _≡_ {A = ℕ} 0 1 → A
 different z = absurd (omega arith)
@@ -58,7 +58,7 @@ module _ (type : ℕ) where
 
 module _ (r : List ℕ) (flags acm : ℕ) where
   agree : Agree (recordRules r flags acm) (recordMeanings r flags acm)
-  agree = agrees (lit< tt) (record-exactly r) & agrees (lit< tt) (worthy-exactly flags r) & agrees (lit< tt) (reached-exactly acm r) & tt
+  agree = agrees (lit< tt) (record-exactly r) & agrees (lit< tt) (worthy-or-allowed-exactly flags r) & agrees (lit< tt) (reached-exactly acm r) & tt
 
   abbrev rs : List Rule
   rs = recordRules r flags acm

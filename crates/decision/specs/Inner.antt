@@ -12,6 +12,7 @@ use Rattle.policy.specs.Grammar.{All, Element, elementBytes, ValidElement, Sign
 use Rattle.policy.specs.Grammar as Grammar
 use Rattle.policy.specs.Answers.{listShown}
 use Rattle.policy.specs.Demand3.{ListPart}
+use Rattle.decision.specs.declared.Criteria.{Criteria}
 use Rattle.decision.specs.Lists.{names}
 
 -- what is measured for a list that is seen
@@ -31,9 +32,9 @@ judgedAnswer (elements.Unjudged start size type control) = false
 judgedAnswer elements.Refused = false
 
 -- an element that is seen names the digest
-abbrev pub namesSeen : List ℕ → ℕ → Option Element → Bool
-namesSeen digest acmVersion none = false
-namesSeen digest acmVersion (some e) = names digest acmVersion e
+abbrev pub namesSeen : Criteria → Option Element → Bool
+namesSeen k none = false
+namesSeen k (some e) = names k e
 
 -- a count of digests is a number of 16 bits
 abbrev pub Counted : ElementAnswer → Type 0

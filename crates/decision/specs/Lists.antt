@@ -1,4 +1,4 @@
--- The policy file: where it stands, the measures of its lists, and which list permits a digest. Rules 26 to 29, of the one reading that the file has.
+-- The policy file: where it stands, the measures of its lists, and which list permits. Rules 26 to 29, of the one reading that the file has.
 use Prim.Native.Nat.{ℕ, suc, _-_}
 use mathlib.Core.Bool.{Bool, true, false, cond, _&&_, _||_}
 use mathlib.Core.List.{List, [], _∷_, flatMap}
@@ -13,6 +13,7 @@ use Rattle.policy.specs.Grammar.{Body, Launch, Element, Signing, PolicyList, li
 use Rattle.policy.specs.Grammar as Grammar
 use Rattle.policy.specs.Answers.{listsIn}
 use Rattle.policy.specs.Decode.{accepted}
+use Rattle.decision.specs.declared.Criteria.{Criteria}
 use Rattle.decision.specs.Record.{policyHash, sha256Alg}
 
 -- a test holds of every value, of some value
@@ -84,33 +85,37 @@ unsigned (Grammar.signed g) = false
 abbrev pub judged : Element → Bool
 judged e = eqb (e .type) launchType || eqb (e .type) customType
 
-abbrev pub launchNames : List ℕ → ℕ → Launch → Bool
-launchNames digest acmVersion b =
-    eqb (b .hashAlg) sha256Alg
-    && (any (same digest) (b .digests) && leb (b .sinitMinVersion) acmVersion)
+abbrev pub launchNames : Criteria → Launch → Bool
+launchNames k b =
+    eqb (b .digests .hashAlg) sha256Alg
+    && (any (same (k .digest)) (b .digests .digests) && leb (b .sinitMinVersion) (k .«acm_version»))
 
-abbrev pub bodyNames : List ℕ → ℕ → Body → Bool
-bodyNames digest acmVersion (Grammar.launch b) = launchNames digest acmVersion b
-bodyNames digest acmVersion (Grammar.other b) = false
+abbrev pub bodyNames : Criteria → Body → Bool
+bodyNames k (Grammar.launch b) = launchNames k b
+bodyNames k (Grammar.other b) = false
 
-unfoldable pub names : List ℕ → ℕ → Element → Bool
-names digest acmVersion e = bodyNames digest acmVersion (e .body)
+unfoldable pub names : Criteria → Element → Bool
+names k e = bodyNames k (e .body)
 
-unfoldable pub permits : List ℕ → ℕ → PolicyList → Bool
-permits digest acmVersion l =
-    unsigned (l .signing) && (every judged (l .elements) && any (names digest acmVersion) (l .elements))
+-- of the list number i
+unfoldable pub permits : Criteria → ℕ → PolicyList → Bool
+permits k i l = unsigned (l .signing) && (every judged (l .elements) && any (names k) (l .elements))
 
--- "no list permits"
-unfoldable pub somePermits : List ℕ → List ℕ → ℕ → Bool
-somePermits file digest acmVersion = any (permits digest acmVersion) (listsOf file)
+-- "no list permits": a test holds of some list, counted from i
+unfoldable pub someFrom : ℕ → (ℕ → PolicyList → Bool) → List PolicyList → Bool
+someFrom i test [] = false
+someFrom i test (l ∷ ls) = test i l || someFrom (suc i) test ls
+
+unfoldable pub somePermits : List ℕ → Criteria → Bool
+somePermits file k = someFrom 0 (permits k) (listsOf file)
 
 -- "The lowest permitting list is reported." 255 where none permits
 abbrev pub noList : ℕ
 noList = 255
 
-unfoldable pub lowestFrom : ℕ → (PolicyList → Bool) → List PolicyList → ℕ
+unfoldable pub lowestFrom : ℕ → (ℕ → PolicyList → Bool) → List PolicyList → ℕ
 lowestFrom i test [] = noList
-lowestFrom i test (l ∷ ls) = cond (test l) i (lowestFrom (suc i) test ls)
+lowestFrom i test (l ∷ ls) = cond (test i l) i (lowestFrom (suc i) test ls)
 
-unfoldable pub lowestPermitting : List ℕ → List ℕ → ℕ → ℕ
-lowestPermitting file digest acmVersion = lowestFrom 0 (permits digest acmVersion) (listsOf file)
+unfoldable pub lowestPermitting : List ℕ → Criteria → ℕ
+lowestPermitting file k = lowestFrom 0 (permits k) (listsOf file)

@@ -58,8 +58,8 @@ recordTests r =
 abbrev pub bit : ℕ → ℕ → Bool
 bit k x = eqb (x / 2 ^ k % 2) 1
 
-unfoldable pub productionWorthy : ℕ → List ℕ → Bool
-productionWorthy flags r = not (bit 14 flags || bit 15 flags) || bit 1 (control r)
+unfoldable pub worthyOrAllowed : ℕ → List ℕ → Bool
+worthyOrAllowed flags r = not (bit 14 flags || bit 15 flags) || bit 1 (control r)
 
 -- 25. "AcmVersion below the record's SINITMinVersion"
 unfoldable pub versionReached : ℕ → List ℕ → Bool
@@ -69,6 +69,6 @@ versionReached acmVersion r = leb (sinitMinVersion r) acmVersion
 abbrev pub recordRules : List ℕ → ℕ → ℕ → List Rule
 recordRules r flags acmVersion =
     rule 23 (all (recordTests r))
-    ∷ rule 24 (productionWorthy flags r)
+    ∷ rule 24 (worthyOrAllowed flags r)
     ∷ rule 25 (versionReached acmVersion r)
     ∷ []

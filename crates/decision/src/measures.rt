@@ -41,21 +41,21 @@ fn hash(file: &[u8]) -> [u8; 32]
     sha256::finish(state)
 }
 
-// Whether the record r has the hash of the file.
-fn hash_matches(file: &[u8], r: &[u8]) -> bool
+// Whether the record has the hash of the file.
+fn hash_matches(file: &[u8], record: &[u8]) -> bool
     requires { ⌜ ofGrammar (now file) ≡ true ⌝ }
-    ensures { λ t. ⌜ t ≡ hashMatches (now (file .entry)) (now (r .entry)) ⌝ }
+    ensures { λ t. ⌜ t ≡ hashMatches (now (file .entry)) (now («record» .entry)) ⌝ }
 {
     let h = hash(file);
-    field::marked(r, POLICY_HASH, &h)
+    field::marked(record, POLICY_HASH, &h)
 }
 
-// The number of the first of rules 27 and 28 that fails for a file and the record r, 0 where both hold.
-pub fn file_fault(file: &[u8], r: &[u8]) -> u32
-    ensures { λ n. ⌜ n ≡ firstFailing (fileRules (now (file .entry)) (now (r .entry))) ⌝ }
+// The number of the first of rules 27 and 28 that fails for a file and the record, 0 where both hold.
+pub fn file_fault(file: &[u8], record: &[u8]) -> u32
+    ensures { λ n. ⌜ n ≡ firstFailing (fileRules (now (file .entry)) (now («record» .entry))) ⌝ }
 {
     match policy::read(file) {
-        FileAnswer::Accepted { .. } => rules::unless(hash_matches(file, r), 28, 0),
+        FileAnswer::Accepted { .. } => rules::unless(hash_matches(file, record), 28, 0),
         FileAnswer::WrongSize => 27,
         FileAnswer::NotOfGrammar => 27,
     }

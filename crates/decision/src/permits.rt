@@ -1,4 +1,5 @@
-// Which list of a file permits a digest: rule 29. `acm` is the AcmVersion of the module.
+// Which list of a file permits: rule 29.
+use crate::Criteria;
 use crate::NO_LIST;
 use crate::SHA256_ALG;
 use policy::ElementAnswer;
@@ -39,10 +40,10 @@ fn named(b: &[u8], count: usize, digest: &[u8; 32]) -> bool
     false
 }
 
-// Whether an element of t names the digest. Its body is passed on as the part of t that it is.
-fn names(t: &[u8], e: ElementAnswer, digest: &[u8; 32], acm: u64) -> bool
+// Whether an element of t names the digest of k. Its body is passed on as the part of t that it is.
+fn names(t: &[u8], e: ElementAnswer, k: Criteria) -> bool
     requires { ⌜ Counted e ⌝ }
-    ensures { λ r. ⌜ r ≡ namesSeen (now (digest .entry)) acm (seenElement (now (t .entry)) e) ⌝ }
+    ensures { λ r. ⌜ r ≡ namesSeen k (seenElement (now (t .entry)) e) ⌝ }
 {
     match e {
         ElementAnswer::Launch {
@@ -54,10 +55,11 @@ fn names(t: &[u8], e: ElementAnswer, digest: &[u8; 32], acm: u64) -> bool
             if hash_alg as u64 != SHA256_ALG {
                 return false;
             }
-            if acm < sinit_min_version as u64 {
+            if k.acm_version < sinit_min_version as u64 {
                 return false;
             }
-            named(policy::body(t, e), count, digest)
+            let digest = k.digest;
+            named(policy::body(t, e), count, &digest)
         }
         ElementAnswer::Custom { .. } => false,
         ElementAnswer::Unjudged { .. } => false,
@@ -77,10 +79,10 @@ fn judged(e: ElementAnswer) -> bool
     }
 }
 
-// Whether the elements of t from `start` on are of types that are judged and one of them names the digest.
-fn elements_permit(t: &[u8], start: usize, digest: &[u8; 32], acm: u64) -> bool
+// Whether the elements of t from `start` on are of types that are judged and one of them names the digest of k.
+fn elements_permit(t: &[u8], start: usize, k: Criteria) -> bool
     requires { ⌜ ((es : List Element) × ElementsStand (now t) start es) ⌝ }
-    ensures { λ r. ⌜ ((es : List Element) → ElementsStand (now (t .entry)) start es → r ≡ (every spec.judged es && any (spec.names (now (digest .entry)) acm) es)) ⌝ }
+    ensures { λ r. ⌜ ((es : List Element) → ElementsStand (now (t .entry)) start es → r ≡ (every spec.judged es && any (spec.names k) es)) ⌝ }
 {
     let mut at = start;
     let mut found = false;
@@ -89,7 +91,7 @@ fn elements_permit(t: &[u8], start: usize, digest: &[u8; 32], acm: u64) -> bool
         if !judged(e) {
             return false;
         }
-        if names(t, e, digest, acm) {
+        if names(t, e, k) {
             found = true;
         }
         at += policy::element_size(e);
@@ -97,32 +99,32 @@ fn elements_permit(t: &[u8], start: usize, digest: &[u8; 32], acm: u64) -> bool
     found
 }
 
-// Whether a list of the file permits the digest.
-fn list_permits(file: &[u8], l: ListAnswer, digest: &[u8; 32], acm: u64) -> bool
+// Whether the list number i of the file permits.
+fn list_permits(file: &[u8], l: ListAnswer, i: u32, k: Criteria) -> bool
     requires { ⌜ ((x : PolicyList) × ListStands (now file) l x) ⌝ }
-    ensures { λ r. ⌜ ((x : PolicyList) → ListStands (now (file .entry)) l x → r ≡ permits (now (digest .entry)) acm x) ⌝ }
+    ensures { λ r. ⌜ ((x : PolicyList) → ListStands (now (file .entry)) l x → r ≡ permits k i x) ⌝ }
 {
     match l {
         ListAnswer::Unsigned {
             elements,
             elements_size,
             ..
-        } => elements_permit(&file[..elements + elements_size], elements, digest, acm),
+        } => elements_permit(&file[..elements + elements_size], elements, k),
         ListAnswer::Signed { .. } => false,
         ListAnswer::Absent => false,
     }
 }
 
-// The number of the lowest list of a file of the grammar that permits the digest, NO_LIST where none does.
-fn lowest_in(file: &[u8], digest: &[u8; 32], acm: u64) -> u32
+// The number of the lowest list of a file of the grammar that permits, NO_LIST where none does.
+fn lowest_in(file: &[u8], k: Criteria) -> u32
     requires { ⌜ ofGrammar (now file) ≡ true ⌝ }
-    ensures { λ r. ⌜ r ≡ lowestPermitting (now (file .entry)) (now (digest .entry)) acm ⌝ }
+    ensures { λ r. ⌜ r ≡ lowestPermitting (now (file .entry)) k ⌝ }
 {
     let mut at = FIRST_LIST;
     let mut i: u32 = 0;
     while at < file.len() {
         let l = policy::list_at(file, at);
-        if list_permits(file, l, digest, acm) {
+        if list_permits(file, l, i, k) {
             return i;
         }
         at += policy::list_size(l);
@@ -131,12 +133,12 @@ fn lowest_in(file: &[u8], digest: &[u8; 32], acm: u64) -> u32
     NO_LIST
 }
 
-// The number of the lowest list that permits the digest, NO_LIST where none does, as in a file that is not of the grammar.
-pub fn lowest_permitting(file: &[u8], digest: &[u8; 32], acm: u64) -> u32
-    ensures { λ r. ⌜ r ≡ lowestPermitting (now (file .entry)) (now (digest .entry)) acm ⌝ }
+// The number of the lowest list that permits, NO_LIST where none does, as in a file that is not of the grammar.
+pub fn lowest_permitting(file: &[u8], k: Criteria) -> u32
+    ensures { λ r. ⌜ r ≡ lowestPermitting (now (file .entry)) k ⌝ }
 {
     match policy::read(file) {
-        FileAnswer::Accepted { .. } => lowest_in(file, digest, acm),
+        FileAnswer::Accepted { .. } => lowest_in(file, k),
         FileAnswer::WrongSize => NO_LIST,
         FileAnswer::NotOfGrammar => NO_LIST,
     }

@@ -11,5 +11,5 @@ demand2 i places b told =
     record {
       exactly = (λ e. holds i b (sym (number-is i) ∙ e), λ h. number-is i ∙ permits i b h);
       gives = λ e. given i places b told (sym (number-is i) ∙ e);
-      noList = λ e. no-list i places (sym (number-is i) ∙ e);
+      noList = λ e. no-list i places b (sym (number-is i) ∙ e);
     }

@@ -9,6 +9,7 @@ use lib.Dec.{lit<}
 use lib.ListN.{length, take, drop, getD}
 use lib.Seq.{take-append-seam, drop-append-seam}
 use Rattle.field.specs.Number.{Bytes}
+use Rattle.rules.specs.Rules.{firstFailing}
 use Rattle.range.proofs.Ranges.{inside-exactly}
 use Rattle.sha256.specs.Message.{sha256}
 use Rattle.pages.specs.declared.Kind.the-variants.{Page}
@@ -20,15 +21,16 @@ use Rattle.mle.specs.Image.{addressAt, addressesFrom, bytesFrom, imageDigest}
 use Rattle.mle.proofs.Pages.{AllInside, bytes-there, addresses-length, page-list-written, page-list-place}
 use Rattle.decision.specs.Record.{policyType, LIST, ANY}
 use Rattle.decision.specs.Lists.{noList, lowestPermitting}
-use Rattle.decision.specs.Meaning.{SomePermits, Lowest}
 use Rattle.decision.proofs.Permission.{lowest-exactly, lowest-most}
 use Rattle.launch.specs.declared.Answer.{Answer}
-use Rattle.launch.specs.Rules.{Input, os, acm, memory, met, image}
+use Rattle.launch.specs.Rules.{Input, os, memory, image, found, findRules, policyFile, criteria}
 use Rattle.launch.specs.Answer.{numberOf, answerOf, placesOf}
-use Rattle.launch.specs.Permitted.{N, file}
-use Rattle.launch.specs.Demand2.{page, memoryAt, Permission}
+use Rattle.launch.specs.Permitted.{N, pagesFrom}
+use Rattle.launch.specs.Demand2.{page, memoryAt, LowestPermits, Permission}
 use Rattle.launch.proofs.Demand1.{answer-permitted, places-permitted}
-use Rattle.launch.proofs.Permitting.{counted, found-image, walk-of, file-bytes, late-of, room-of}
+use Rattle.launch.proofs.Finds.{Finds, finds}
+use Rattle.launch.proofs.Decides.{Decides, reads}
+use Rattle.launch.proofs.Permitting.{both}
 
 module _ (i : Input) (places : List ℕ) (b : Bytes (i .window)) (told : length places ≡ i .places) (e : numberOf i ≡ 0) where
   abbrev w : List ℕ
@@ -38,20 +40,29 @@ module _ (i : Input) (places : List ℕ) (b : Bytes (i .window)) (told : length 
   im = image i
 
   abbrev first : ℕ
-  first = met i .first
+  first = im .first
+
+  stages : (firstFailing (findRules i) ≡ 0) × Decides w (i .policyRecord) (found i)
+  stages = both i b e
+
+  found-pages : Finds i first × (im ≡ pagesFrom i first)
+  found-pages = finds i (stages .0)
+
+  counted : im .count ≡ N i
+  counted = ap (λ (x : Image). x .count) (found-pages .1)
 
   enough : im .count ≤ length places
-  enough = omega (arith, counted i e, room-of i e)
+  enough = omega (arith, counted, found-pages .0 .room)
 
   -- THE PAGES
 
   walked : Walked w (memory i) (os i .«page_table_base») first (N i)
-  walked = found-by-walk _ _ _ _ _ (mapped-exactly w (memory i) (os i .«page_table_base») first (N i) .1 (walk-of i e))
+  walked = found-by-walk _ _ _ _ _ (mapped-exactly w (memory i) (os i .«page_table_base») first (N i) .1 (found-pages .0 .walk))
 
   page-is : (k : ℕ) → k < N i → page i places k ≡ addressOf (entry w (memory i) (os i .«page_table_base») Page (first + k))
   unfolding addressAt
   page-is k h =
-      ap (λ (s : List ℕ). getD s k 0) (places-permitted i e places) ∙ page-list-place w im places k (omega (arith, counted i e)) enough
+      ap (λ (s : List ℕ). getD s k 0) (places-permitted i e places) ∙ page-list-place w im places k (omega (arith, counted)) enough
 
   abbrev addresses : List ℕ
   addresses = addressesFrom w im first (im .count)
@@ -61,15 +72,15 @@ module _ (i : Input) (places : List ℕ) (b : Bytes (i .window)) (told : length 
 
   rest : drop (N i) (placesOf i places) ≡ drop (N i) places
   rest =
-      let n : N i ≡ length addresses = sym (addresses-length w im first (im .count) ∙ counted i e) in
+      let n : N i ≡ length addresses = sym (addresses-length w im first (im .count) ∙ counted) in
       ap (drop (N i)) written
       ∙ ap (λ (k : ℕ). drop k (addresses ++ drop (im .count) places)) n
       ∙ drop-append-seam addresses (drop (im .count) places)
-      ∙ ap (λ (k : ℕ). drop k places) (counted i e)
+      ∙ ap (λ (k : ℕ). drop k places) (counted)
 
   pages-are : take (N i) (placesOf i places) ≡ addresses
   pages-are =
-      let n : N i ≡ length addresses = sym (addresses-length w im first (im .count) ∙ counted i e) in
+      let n : N i ≡ length addresses = sym (addresses-length w im first (im .count) ∙ counted) in
       ap (take (N i)) written
       ∙ ap (λ (k : ℕ). take k (addresses ++ drop (im .count) places)) n
       ∙ take-append-seam addresses (drop (im .count) places)
@@ -86,7 +97,7 @@ module _ (i : Input) (places : List ℕ) (b : Bytes (i .window)) (told : length 
 
   all-inside : AllInside w im first (im .count)
   unfolding addressAt
-  all-inside k h = inside-exactly _ _ .1 (lit< tt) (walked .inside k (omega (arith, counted i e)))
+  all-inside k h = inside-exactly _ _ .1 (lit< tt) (walked .inside k (omega (arith, counted)))
 
   digest-is : answerOf i .digest ≡ imageDigest w im
   digest-is = ap (λ (a : Answer). a .digest) (answer-permitted i e)
@@ -97,29 +108,34 @@ module _ (i : Input) (places : List ℕ) (b : Bytes (i .window)) (told : length 
 
   -- THE LIST
 
-  any-list : policyType (i .policy) ≡ ANY → answerOf i .list ≡ noList
+  any-list : policyType (i .policyRecord) ≡ ANY → answerOf i .list ≡ noList
   any-list q =
-      ap (λ (a : Answer). a .list) (answer-permitted i e) ∙ rw (ne-eqb (policyType (i .policy)) LIST (λ z. omega (arith, q, z)))
+      ap (λ (a : Answer). a .list) (answer-permitted i e) ∙ rw (ne-eqb (policyType (i .policyRecord)) LIST (λ z. omega (arith, q, z)))
 
-  lowest : policyType (i .policy) ≡ LIST → Lowest (file i) (answerOf i .digest) (acm i .«acm_version») (answerOf i .list)
+  lowest : policyType (i .policyRecord) ≡ LIST → LowestPermits i places
   lowest q =
-      let reported = lowestPermitting (file i) (imageDigest w im) (acm i .«acm_version») in
-      let some : SomePermits (file i) (imageDigest w im) (acm i .«acm_version») =
-      subst (λ (x : Image). SomePermits (file i) (imageDigest w x) (acm i .«acm_version»)) (sym (found-image i e)) (late-of i b e .lists q .permits) in
-      let laws = lowest-exactly (file i) (imageDigest w im) (acm i .«acm_version») (file-bytes i b) in
-      let most = lowest-most (file i) (imageDigest w im) (acm i .«acm_version») (file-bytes i b) in
-      let not-none : reported ≢ noList = λ z. laws .1 .0 z some in
-      let is-list : answerOf i .list ≡ reported = ap (λ (a : Answer). a .list) (answer-permitted i e) ∙ rw (eq-eqb (policyType (i .policy)) LIST q) in
-      rw (digest-is, is-list) (laws .0 reported (omega (arith, most, not-none)) .0 refl)
+      let h = stages .1 .lists q in
+      let read = reads w (i .policyRecord) (found i) b (h .placed) (h .reading) (h .grammar) in
+      let k = criteria w (found i) in
+      let reported = lowestPermitting (policyFile w (found i)) k in
+      let laws = lowest-exactly (policyFile w (found i)) k (h .reading) read in
+      let most = lowest-most (policyFile w (found i)) k (h .reading) read in
+      let not-none : reported ≢ noList = λ z. laws .1 .0 z (h .permits) in
+      let is-list : answerOf i .list ≡ reported = ap (λ (a : Answer). a .list) (answer-permitted i e) ∙ rw (eq-eqb (policyType (i .policyRecord)) LIST q) in
+      record {
+        reading = h .reading;
+        grammar = h .grammar;
+        lowest = rw (digest-is, is-list) (laws .0 reported (omega (arith, most, not-none)) .0 refl);
+      }
 
   pub given : Permission i places
   given =
       record {
-        count = ap (λ (a : Answer). a .pages) (answer-permitted i e) ∙ counted i e;
+        count = ap (λ (a : Answer). a .pages) (answer-permitted i e) ∙ counted;
         first = first;
         linear = page-is;
         rest = rest;
-        climb = λ j k x y. rw (page-is j (omega arith), page-is k y) (walked .climb j k x y);
+        ascend = λ j k x y. rw (page-is j (omega arith), page-is k y) (walked .rising j k x y);
         apart = λ j k x y z. rw (page-is j x, page-is k y) (walked .apart j k x y z);
         inside = λ k x. rw (page-is k x) (walked .inside k x);
         protected = λ k x. rw (page-is k x) (walked .protected k x);

@@ -1,10 +1,12 @@
 -- The laws of the stages, and the theorems.
-mod Left
-mod Groups
+mod Order
 mod Conditions
-mod LastGroups
+mod Finding
+mod Deciding
 mod Whole
 pub mod Demand1
+mod Finds
+mod Decides
 mod Permitting
 mod Given
 mod Last

@@ -1,48 +1,50 @@
--- All stages in turn give the answer of the specification, and the page list by it.
+-- Both stages in turn give the answer of the specification, and the page list by it.
 use Prim.Native.Nat.{ℕ}
-use mathlib.Core.Path.{_≡_, refl, _∙_, ap}
-use mathlib.Core.Bool.{Bool, true, false, cond}
+use mathlib.Core.Path.{_≡_, refl, _∙_, ap, sym}
 use mathlib.Core.List.{List}
-use lib.Dec.{eqb}
+use lib.Dec.{lit<}
+use Rattle.rules.specs.Rules.{Rule, firstFailing, answerFor}
+use Rattle.rules.proofs.Rules.{numbers-not-0}
+use Rattle.rules.proofs.Answers.{made-of, group-refuses, group-passes}
 use Rattle.mle.specs.Image.{pageList}
 use Rattle.mle.proofs.Pages.{page-list-none}
-use Rattle.launch.specs.declared.Answer.{Answer}
+use Rattle.launch.specs.declared.Found.{Found}
+use Rattle.launch.specs.declared.FindAnswer.the-variants.{Complete, Refused}
 use Rattle.launch.specs.declared.Verdict.{Verdict}
-use Rattle.launch.specs.Rules.{Input, rules}
-use Rattle.launch.specs.Answer.{refused, permitted, numberOf, answerOf, placesOf}
-use Rattle.launch.specs.Inner.{noImage, refusal, decided, whole, platformStage}
-
--- the answer that shows a verdict
-abbrev shown : Verdict → Answer
-shown v = record { number = v .number; pages = v .image .count; list = v .list; digest = v .digest }
+use Rattle.launch.specs.Rules.{Input, found, findRules, decideRules, rules}
+use Rattle.launch.specs.Answer.{refused, permitted, answerOf, placesOf, listFor}
+use Rattle.launch.specs.Inner.{noImage, refusal, permission, findStage, decideStage, judged}
+use Rattle.launch.proofs.Finding.{refused-by, complete-by}
+use Rattle.launch.proofs.Order.{find-group}
 
 module _ (i : Input) where
-  abbrev stages : Verdict
-  stages = platformStage (i .window) (i .heap) (i .sinit) (i .policy) (i .platform) (i .places)
+  abbrev verdict : Verdict
+  verdict = permission (i .window) (found i) (listFor (i .window) (i .policyRecord) (found i))
 
-  abbrev permission : Verdict
-  permission = whole (i .window) (i .heap) (i .sinit) (i .policy) (i .platform) (i .places)
+  abbrev later : List Rule
+  later = decideRules (i .window) (i .policyRecord) (found i)
 
-  abbrev by : Bool → Verdict
-  by t = cond t permission (refusal (numberOf i))
+  pub find-refuses : (n : ℕ) → findStage i ≡ Refused n → refusal n ≡ judged i
+  unfolding findStage judged rules
+  find-refuses n e = let a = refused-by (findRules i) (found i) n e in group-refuses refusal verdict (findRules i) later n (a .0) (a .1)
 
-  stages-by : stages ≡ by (eqb (numberOf i) 0)
-  unfolding platformStage decided numberOf rules
-  stages-by = refl
+  pub find-passes : (f : Found) → findStage i ≡ Complete f → decideStage (i .window) (i .policyRecord) f ≡ judged i
+  unfolding findStage decideStage judged rules
+  find-passes f e =
+      let a = complete-by (findRules i) (found i) f e in
+      rw (a .1) (group-passes refusal verdict (findRules i) later (numbers-not-0 1 22 (findRules i) (lit< tt) (find-group i .numbers)) (a .0))
 
-  shown-by : (t : Bool) → shown (by t) ≡ cond t (permitted i) (refused (numberOf i))
-  shown-by true = refl
-  shown-by false = refl
-
-  pub answer-is : (v : Verdict) → v ≡ stages → shown v ≡ answerOf i
-  unfolding answerOf
-  answer-is v e = ap shown (e ∙ stages-by) ∙ shown-by (eqb (numberOf i) 0)
+  pub answer-is : (v : Verdict) → v ≡ judged i → v .answer ≡ answerOf i
+  unfolding judged answerOf
+  answer-is v e = ap (λ (u : Verdict). u .answer) e ∙ made-of refusal verdict (λ (u : Verdict). u .answer) (firstFailing (rules i))
 
   module _ (places : List ℕ) where
-    places-by : (t : Bool) → pageList (i .window) (by t .image) places ≡ cond t (pageList (i .window) (permission .image) places) places
-    places-by true = refl
-    places-by false = page-list-none (i .window) noImage places refl
+    abbrev written : Verdict → List ℕ
+    written v = pageList (i .window) (v .image) places
 
-    pub places-are : (v : Verdict) → v ≡ stages → pageList (i .window) (v .image) places ≡ placesOf i places
-    unfolding placesOf
-    places-are v e = ap (λ u. pageList (i .window) (u .image) places) (e ∙ stages-by) ∙ places-by (eqb (numberOf i) 0)
+    kept : (n : ℕ) → answerFor (λ (k : ℕ). written (refusal k)) (written verdict) n ≡ answerFor (λ (k : ℕ). places) (written verdict) n
+    kept n = ap (λ (p : List ℕ). answerFor (λ (k : ℕ). p) (written verdict) n) (page-list-none (i .window) noImage places refl)
+
+    pub places-are : (v : Verdict) → v ≡ judged i → written v ≡ placesOf i places
+    unfolding judged placesOf
+    places-are v e = ap written e ∙ made-of refusal verdict written (firstFailing (rules i)) ∙ kept (firstFailing (rules i))

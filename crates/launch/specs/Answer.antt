@@ -1,34 +1,32 @@
 -- The answer and the page list: the number is that of the first rule that fails, and only where none does are there pages, a list and a digest.
-use Prim.Native.Nat.{ℕ, zero}
+use Prim.Native.Nat.{ℕ}
 use mathlib.Core.Bool.{cond}
 use mathlib.Core.List.{List}
 use lib.Dec.{eqb}
 use lib.ListN.{replicate}
-use Rattle.rules.specs.Rules.{firstFailing}
-use Rattle.heap.specs.declared.OsSinitData.{OsSinitData}
-use Rattle.sinit.specs.declared.ModuleData.{ModuleData}
-use Rattle.mle.specs.declared.Image.{Image}
+use Rattle.rules.specs.Rules.{firstFailing, answerBy}
 use Rattle.mle.specs.Image.{imageDigest, pageList}
 use Rattle.decision.specs.Record.{policyType, LIST}
 use Rattle.decision.specs.Lists.{noList, lowestPermitting}
 use Rattle.launch.specs.declared.Answer.{Answer}
-use Rattle.launch.specs.Rules.{Input, policyFile, os, acm, image, rules}
+use Rattle.launch.specs.declared.Found.{Found}
+use Rattle.launch.specs.Rules.{Input, policyFile, criteria, image, found, rules}
 
 -- "A refusal has page count 0, list 255, digest all zero"
 abbrev pub refused : ℕ → Answer
 refused n = record { number = n; pages = 0; list = noList; digest = replicate 32 0 }
 
 -- "Under ANY the list is 255." Under LIST it is the lowest that permits
-abbrev pub listFor : List ℕ → Image → List ℕ → OsSinitData → ModuleData → ℕ
-listFor window image policy o m =
-    cond (eqb (policyType policy) LIST) (lowestPermitting (policyFile window image o) (imageDigest window image) (m .«acm_version»)) noList
+abbrev pub listFor : List ℕ → List ℕ → Found → ℕ
+listFor window policyRecord f =
+    cond (eqb (policyType policyRecord) LIST) (lowestPermitting (policyFile window f) (criteria window f)) noList
 
 abbrev pub permitted : Input → Answer
 permitted i =
     record {
       number = 0;
       pages = image i .count;
-      list = listFor (i .window) (image i) (i .policy) (os i) (acm i);
+      list = listFor (i .window) (i .policyRecord) (found i);
       digest = imageDigest (i .window) (image i);
     }
 
@@ -37,8 +35,8 @@ unfoldable pub numberOf : Input → ℕ
 numberOf i = firstFailing (rules i)
 
 unfoldable pub answerOf : Input → Answer
-answerOf i = cond (eqb (numberOf i) 0) (permitted i) (refused (numberOf i))
+answerOf i = answerBy refused (permitted i) (rules i)
 
 -- "the page list keeps every place" on a refusal; "A permission writes the N page addresses, in linear order, to the first N places and keeps the rest"
 unfoldable pub placesOf : Input → List ℕ → List ℕ
-placesOf i places = cond (eqb (numberOf i) 0) (pageList (i .window) (image i) places) places
+placesOf i places = answerBy (λ (n : ℕ). places) (pageList (i .window) (image i) places) (rules i)

@@ -11,7 +11,7 @@ pub record SameButBodies (i j : Input) : Type 0 where
   pub window : i .window ≡ j .window
   pub heap : SameElsewhere (i .heap) (j .heap)
   pub sinit : i .sinit ≡ j .sinit
-  pub policy : i .policy ≡ j .policy
+  pub policyRecord : i .policyRecord ≡ j .policyRecord
   pub platform : i .platform ≡ j .platform
   pub places : i .places ≡ j .places
 

@@ -1,11 +1,11 @@
 -- Demand 1, as one statement: `Demand1`, which proofs/Demand1.antt proves as `demand1`. That the check ends and reads nothing but what it was
 -- lent is what the prover shows of every function; the contract of `check` says that it answers `answerOf` and leaves the page list `placesOf`.
-use Prim.Native.Nat.{ℕ, _<_}
+use Prim.Native.Nat.{ℕ, _≤_, _<_}
 use mathlib.Core.Path.{_≡_}
-use mathlib.Core.Logic.{_↔_, _≢_}
-use mathlib.Core.List.{List}
+use mathlib.Core.Logic.{_↔_, _≢_, _⊎_}
+use mathlib.Core.List.{List, [], _∷_}
 use lib.ListN.{replicate}
-use Rattle.rules.specs.Rules.{FirstFails}
+use Rattle.rules.specs.Rules.{Rule, Every, FirstFails}
 use Rattle.decision.specs.Lists.{noList}
 use Rattle.launch.specs.Rules.{Input, rules}
 use Rattle.launch.specs.Answer.{answerOf, placesOf}
@@ -19,10 +19,24 @@ pub record Refusal (i : Input) (places : List ℕ) : Type 0 where
   pub digest : answerOf i .digest ≡ replicate 32 0
   pub kept : placesOf i places ≡ places
 
--- every number but 0 is a refusal, and it is the one that the order of the rules names
+-- "Lower numbers come first, except 14 to 20, which follow the walk."
+abbrev pub OfWalk : Rule → Type 0
+OfWalk r = (14 ≤ r .number) × (r .number ≤ 20)
+
+abbrev pub MayPrecede : Rule → Rule → Type 0
+MayPrecede r s = (r .number ≤ s .number) ⊎ (OfWalk r × OfWalk s)
+
+-- each rule may precede all that come after it
+abbrev pub InOrder : List Rule → Type 0
+InOrder [] = Unit
+InOrder (r ∷ rs) = Every (MayPrecede r) rs × InOrder rs
+
+-- every number but 0 is a refusal, and it is the one that the order of the rules names; no number is over 29
 pub record OneNumber (i : Input) (places : List ℕ) : Type 0 where
   pub refusal : answerOf i .number ≢ 0 → Refusal i places
   pub one : (n : ℕ) → 0 < n → (answerOf i .number ≡ n) ↔ FirstFails (rules i) n
+  pub most : answerOf i .number ≤ 29
+  pub order : InOrder (rules i)
 
 abbrev pub Demand1 : Type 0
 Demand1 = (i : Input) (places : List ℕ) → OneNumber i places

@@ -11,13 +11,13 @@ use Rattle.pages.specs.declared.Kind.the-variants.{Page}
 use Rattle.pages.specs.Entry.{addressOf}
 use Rattle.pages.specs.Memory.{pageSize, pageOf, windowOf, regions}
 use Rattle.pages.specs.Meaning.{Within, Apart, Some, entry}
-use Rattle.mle.specs.Image.{imageDigest}
+use Rattle.policy.specs.Grammar.{Reading, Makes}
 use Rattle.decision.specs.Record.{policyType, LIST, ANY}
 use Rattle.decision.specs.Lists.{noList}
 use Rattle.decision.specs.Meaning.{SomePermits, Lowest}
-use Rattle.launch.specs.Rules.{Input, os, acm, memory, image}
+use Rattle.launch.specs.Rules.{Input, os, moduleData, memory, found, policyFile, criteria}
 use Rattle.launch.specs.Answer.{answerOf, placesOf}
-use Rattle.launch.specs.Permitted.{N, file, Permitted}
+use Rattle.launch.specs.Permitted.{N, Permitted}
 
 module _ (i : Input) (places : List ℕ) where
   -- the address in a place of the page list, when the check has answered
@@ -28,14 +28,20 @@ module _ (i : Input) (places : List ℕ) where
   abbrev pub memoryAt : ℕ → List ℕ
   memoryAt a = take pageSize (drop (a - i .platform .«window_base») (i .window))
 
+  -- the list that is answered is the lowest that permits, of the reading that makes the file
+  pub record LowestPermits : Type 0 where
+    pub reading : Reading
+    pub grammar : Makes reading (policyFile (i .window) (found i))
+    pub lowest : Lowest reading (record { digest = answerOf i .digest; «acm_version» = moduleData i .«acm_version» }) (answerOf i .list)
+
   pub record Permission : Type 0 where
     pub count : answerOf i .pages ≡ N i
     -- the first N places hold the pages in linear order: each is found through the tables; the other places are as they were
     pub first : ℕ
     pub linear : (k : ℕ) → k < N i → page k ≡ addressOf (entry (i .window) (memory i) (os i .«page_table_base») Page (first + k))
     pub rest : drop (N i) (placesOf i places) ≡ drop (N i) places
-    -- they climb strictly and do not overlap
-    pub climb : (j k : ℕ) → j < k → k < N i → page j < page k
+    -- they ascend strictly and do not overlap
+    pub ascend : (j k : ℕ) → j < k → k < N i → page j < page k
     pub apart : (j k : ℕ) → j < N i → k < N i → j ≢ k → Apart (pageOf (page j)) (pageOf (page k))
     -- each lies in the window, and wholly in one of the regions that are protected against DMA
     pub inside : (k : ℕ) → k < N i → Within (pageOf (page k)) (windowOf (i .window) (i .platform .«window_base»))
@@ -43,14 +49,15 @@ module _ (i : Input) (places : List ℕ) where
     -- the digest is that of their bytes, joined
     pub digest : answerOf i .digest ≡ sha256 (flatMap memoryAt (take (N i) (placesOf i places)))
     -- "Under ANY the list is 255"; under LIST it permits this digest, and no lower one does
-    pub anyList : policyType (i .policy) ≡ ANY → answerOf i .list ≡ noList
-    pub lowest : policyType (i .policy) ≡ LIST
-        → Lowest (file i) (answerOf i .digest) (acm i .«acm_version») (answerOf i .list)
+    pub anyList : policyType (i .policyRecord) ≡ ANY → answerOf i .list ≡ noList
+    pub lowest : policyType (i .policyRecord) ≡ LIST → LowestPermits
 
-  -- no list of the file permits the digest of the pages
+  -- no list of the reading that makes the file permits the pages
   pub record NoList : Type 0 where
-    pub underList : policyType (i .policy) ≡ LIST
-    pub none : SomePermits (file i) (imageDigest (i .window) (image i)) (acm i .«acm_version») → ⊥
+    pub underList : policyType (i .policyRecord) ≡ LIST
+    pub reading : Reading
+    pub grammar : Makes reading (policyFile (i .window) (found i))
+    pub none : SomePermits reading (criteria (i .window) (found i)) → ⊥
 
   pub record PermittedExactly : Type 0 where
     pub exactly : (answerOf i .number ≡ 0) ↔ Permitted i

@@ -10,14 +10,14 @@ use Rattle.sinit.specs.Meaning as sinit
 use Rattle.pages.specs.Memory.{pageSize, windowOf}
 use Rattle.pages.specs.Meaning.{Walks}
 use Rattle.mle.specs.declared.Image.{Image}
-use Rattle.mle.specs.Image.{imageDigest}
 use Rattle.mle.specs.Header.{pagesOf}
 use Rattle.mle.specs.Meaning as mle
+use Rattle.policy.specs.Grammar.{Reading, Makes}
 use Rattle.decision.specs.Record.{policyType, LIST}
-use Rattle.decision.specs.Lists.{fileOf}
 use Rattle.decision.specs.Meaning as decision
 use Rattle.launch.specs.declared.Platform.{Platform}
-use Rattle.launch.specs.Rules.{Input, mostWindow, mostHeap, highestEnd, dprRange, chipsetOf, os, acm, memory}
+use Rattle.launch.specs.declared.Found.{Found}
+use Rattle.launch.specs.Rules.{Input, mostWindow, mostHeap, highestEnd, dprRange, chipsetOf, foundOf, os, moduleData, memory, policyFile, criteria}
 
 -- 1
 pub record PlatformHolds (window heap : List ℕ) (p : Platform) : Type 0 where
@@ -28,6 +28,15 @@ pub record PlatformHolds (window heap : List ℕ) (p : Platform) : Type 0 where
   pub heapEnd : p .«heap_base» + length heap ≤ highestEnd
   pub dprEnd : endOf (dprRange p) ≤ highestEnd
 
+-- 26 to 29, by what the launch finds
+pub record ListPermits (window policyRecord : List ℕ) (f : Found) : Type 0 where
+  pub placed : decision.Placed window (f .«window_base») (f .«policy_file» .base) (f .«policy_file» .size)
+  -- the grammar makes the file from this reading, of whose lists the next two rules speak
+  pub reading : Reading
+  pub grammar : Makes reading (policyFile window f)
+  pub hash : decision.HashMatches reading policyRecord
+  pub permits : decision.SomePermits reading (criteria window f)
+
 module _ (i : Input) where
   -- "N is MLE Size divided by 4096"
   abbrev pub N : ℕ
@@ -37,17 +46,6 @@ module _ (i : Input) where
   abbrev pub pagesFrom : ℕ → Image
   pagesFrom first =
       record { window = i .platform .«window_base»; tables = os i .«page_table_base»; first = first; count = N }
-
-  -- the policy file where it stands in the window
-  abbrev pub file : List ℕ
-  file = fileOf (i .window) (i .platform .«window_base») (os i .«policy_file_base») (os i .«policy_file_size»)
-
-  -- 26 to 29, for the pages from a linear page on
-  pub record ListPermits (first : ℕ) : Type 0 where
-    pub placed : decision.Placed (i .window) (i .platform .«window_base») (os i .«policy_file_base») (os i .«policy_file_size»)
-    pub grammar : decision.OfGrammar file
-    pub hash : decision.HashMatches file (i .policy)
-    pub permits : decision.SomePermits file (imageDigest (i .window) (pagesFrom first)) (acm i .«acm_version»)
 
   pub record Permitted : Type 0 where
     -- 1
@@ -83,12 +81,12 @@ module _ (i : Input) where
     pub first : ℕ
     pub walk : Walks (i .window) (memory i) (os i .«page_table_base») first N
     -- 22
-    pub mleHeader : mle.Header (i .window) (pagesFrom first) (os i .«mle_header_base») (os i .«mle_size») (acm i .«min_mle_header_ver»)
+    pub mleHeader : mle.Header (i .window) (pagesFrom first) (os i .«mle_header_base») (os i .«mle_size») (moduleData i .«min_mle_header_ver»)
     -- 23
-    pub policyRecord : decision.Record (i .policy)
+    pub policyRecord : decision.Record (i .policyRecord)
     -- 24
-    pub worthy : decision.Worthy (acm i .flags) (i .policy)
+    pub worthyOrAllowed : decision.WorthyOrAllowed (moduleData i .flags) (i .policyRecord)
     -- 25
-    pub reached : decision.Reached (acm i .«acm_version») (i .policy)
+    pub reached : decision.Reached (moduleData i .«acm_version») (i .policyRecord)
     -- 26 to 29
-    pub lists : policyType (i .policy) ≡ LIST → ListPermits first
+    pub lists : policyType (i .policyRecord) ≡ LIST → ListPermits (i .window) (i .policyRecord) (foundOf (pagesFrom first) (os i) (moduleData i))

@@ -1,4 +1,5 @@
--- The rules of the check, in the order they are tried: one list. Each group of rules is a crate's own; here they are joined.
+-- The rules of the check, in the order they are tried: one list, of two stages. Rules 1 to 22 are those of what the launch finds, rules 23 to 29 those of
+-- what the policy decides. Each group of rules is a crate's own; here they are joined.
 use Prim.Native.Nat.{ℕ, _*_, _%_, _^_}
 use mathlib.Core.Bool.{Bool, cond}
 use mathlib.Core.List.{List, [], _∷_, _++_}
@@ -13,29 +14,30 @@ use Rattle.sinit.specs.declared.Chipset.{Chipset}
 use Rattle.sinit.specs.declared.ModuleData.{ModuleData}
 use Rattle.sinit.specs.Rules as sinit
 use Rattle.pages.specs.declared.Memory.{Memory}
-use Rattle.pages.specs.declared.levels.State.{State}
 use Rattle.pages.specs.Memory.{pageSize, windowOf}
-use Rattle.pages.specs.Rules.{walkRules, metOf}
+use Rattle.pages.specs.Rules.{walkRules, endState}
 use Rattle.mle.specs.declared.Image.{Image}
 use Rattle.mle.specs.Image.{imageDigest}
 use Rattle.mle.specs.Header.{pagesOf, sizeTests, headerTests}
+use Rattle.decision.specs.declared.Criteria.{Criteria}
 use Rattle.decision.specs.Record.{policyType, LIST, recordRules}
 use Rattle.decision.specs.Lists.{filePlaced, fileOf, ofGrammar, hashMatches, somePermits}
 use Rattle.launch.specs.declared.Platform.{Platform}
+use Rattle.launch.specs.declared.Found.{Found}
 
 -- what is lent for reading, the numbers of the platform, and how many places the page list has
 pub record Input : Type 0 where
   pub window : List ℕ
   pub heap : List ℕ
   pub sinit : List ℕ
-  pub policy : List ℕ
+  pub policyRecord : List ℕ
   pub platform : Platform
   pub places : ℕ
 
 abbrev pub inputOf : List ℕ → List ℕ → List ℕ → List ℕ → Platform → ℕ → Input
-inputOf w h s p platform n = record { window = w; heap = h; sinit = s; policy = p; platform = platform; places = n }
+inputOf w h s r platform n = record { window = w; heap = h; sinit = s; policyRecord = r; platform = platform; places = n }
 
--- RANGES OF MEMORY
+-- WHAT THE LAUNCH FINDS
 
 abbrev pub dprRange : Platform → Range
 dprRange p = record { base = p .«dpr_base»; size = p .«dpr_size» }
@@ -54,8 +56,6 @@ memoryFrom heap sinit p o =
 
 abbrev pub chipsetOf : Platform → Chipset
 chipsetOf p = record { vendor = p .vendor; device = p .device; revision = p .revision }
-
--- GROUPS OF RULES
 
 abbrev pub mostWindow : ℕ
 mostWindow = 32 * 2 ^ 20
@@ -88,65 +88,87 @@ imageRules window image o m =
     ∷ rule 22 (all (headerTests window image (o .«mle_header_base») (o .«mle_size») (m .«min_mle_header_ver»)))
     ∷ []
 
--- the policy file where it stands in the window
-abbrev pub policyFile : List ℕ → Image → OsSinitData → List ℕ
-policyFile window image o = fileOf window (image .window) (o .«policy_file_base») (o .«policy_file_size»)
+-- the pages that the walk finds
+abbrev pub imageFound : List ℕ → Memory → OsSinitData → Image
+imageFound window memory o =
+    record {
+      window = memory .window;
+      tables = o .«page_table_base»;
+      first = endState window memory (o .«page_table_base») .first;
+      count = endState window memory (o .«page_table_base») .count;
+    }
 
--- 26 to 29
-abbrev pub listRulesOf : List ℕ → Image → List ℕ → OsSinitData → ModuleData → List Rule
-listRulesOf window image policy o m =
-    rule 26 (all (filePlaced window (image .window) (o .«policy_file_base») (o .«policy_file_size»)))
-    ∷ rule 27 (ofGrammar (policyFile window image o))
-    ∷ rule 28 (hashMatches (policyFile window image o) policy)
-    ∷ rule 29 (somePermits (policyFile window image o) (imageDigest window image) (m .«acm_version»))
-    ∷ []
+-- 12 to 22
+abbrev pub pageRules : List ℕ → OsSinitData → ModuleData → Memory → ℕ → List Rule
+pageRules window o m memory places =
+    sizeRules (o .«mle_size») places
+    -- 14 to 20
+    ++ (walkRules window memory (o .«page_table_base») ++ imageRules window (imageFound window memory o) o m)
 
--- "Rules 26 to 29 are tried under LIST only."
-abbrev pub listRules : List ℕ → Image → List ℕ → OsSinitData → ModuleData → List Rule
-listRules window image policy o m = cond (eqb (policyType policy) LIST) (listRulesOf window image policy o m) []
-
--- WHAT ONE GROUP FINDS AND LATER GROUPS READ
+-- what the policy is asked about: the pages, where the policy file stands, and the flags and AcmVersion of the module
+abbrev pub foundOf : Image → OsSinitData → ModuleData → Found
+foundOf image o m =
+    record {
+      image = image;
+      «window_base» = image .window;
+      «policy_file» = record { base = o .«policy_file_base»; size = o .«policy_file_size» };
+      flags = m .flags;
+      «acm_version» = m .«acm_version»;
+    }
 
 module _ (i : Input) where
   -- the fields of OsSinitData, and the numbers of the module
   abbrev pub os : OsSinitData
   os = heapFields (i .heap)
 
-  abbrev pub acm : ModuleData
-  acm = sinit.valuesOf (i .sinit)
+  abbrev pub moduleData : ModuleData
+  moduleData = sinit.valuesOf (i .sinit)
 
   abbrev pub memory : Memory
   memory = memoryFrom (length (i .heap)) (length (i .sinit)) (i .platform) os
 
-  -- the pages that the walk finds
-  abbrev pub met : State
-  met = metOf (i .window) memory (os .«page_table_base»)
-
   abbrev pub image : Image
-  image =
-      record {
-        window = i .platform .«window_base»;
-        tables = os .«page_table_base»;
-        first = met .first;
-        count = met .count;
-      }
+  image = imageFound (i .window) memory os
 
-  -- ALL RULES. "Lower numbers come first, except 14 to 20, which follow the walk."
-  unfoldable pub rules : List Rule
-  rules =
+  abbrev pub found : Found
+  found = foundOf image os moduleData
+
+  abbrev pub findRules : List Rule
+  findRules =
       -- 1
       rule 1 (all (platformTests (i .window) (i .heap) (i .platform)))
       -- 2 to 5
       ∷ (heapRules (i .heap)
       -- 6 to 11
       ++ (sinit.rules (i .sinit) (i .platform .«sinit_base») (i .platform .«acram_capacity») (chipsetOf (i .platform)) (os .version)
-      -- 12, 13
-      ++ (sizeRules (os .«mle_size») (i .places)
-      -- 14 to 20
-      ++ (walkRules (i .window) memory (os .«page_table_base»)
-      -- 21, 22
-      ++ (imageRules (i .window) image os acm
-      -- 23 to 25
-      ++ (recordRules (i .policy) (acm .flags) (acm .«acm_version»)
-      -- 26 to 29
-      ++ listRules (i .window) image (i .policy) os acm))))))
+      -- 12 to 22
+      ++ pageRules (i .window) os moduleData memory (i .places)))
+
+-- WHAT THE POLICY DECIDES
+
+-- the policy file where it stands in the window
+abbrev pub policyFile : List ℕ → Found → List ℕ
+policyFile window f = fileOf window (f .«window_base») (f .«policy_file» .base) (f .«policy_file» .size)
+
+abbrev pub criteria : List ℕ → Found → Criteria
+criteria window f = record { digest = imageDigest window (f .image); «acm_version» = f .«acm_version» }
+
+-- 26 to 29
+abbrev pub listRules : List ℕ → List ℕ → Found → List Rule
+listRules window policyRecord f =
+    rule 26 (all (filePlaced window (f .«window_base») (f .«policy_file» .base) (f .«policy_file» .size)))
+    ∷ rule 27 (ofGrammar (policyFile window f))
+    ∷ rule 28 (hashMatches (policyFile window f) policyRecord)
+    ∷ rule 29 (somePermits (policyFile window f) (criteria window f))
+    ∷ []
+
+abbrev pub decideRules : List ℕ → List ℕ → Found → List Rule
+decideRules window policyRecord f =
+    -- 23 to 25
+    recordRules policyRecord (f .flags) (f .«acm_version»)
+    -- "Rules 26 to 29 are tried under LIST only."
+    ++ cond (eqb (policyType policyRecord) LIST) (listRules window policyRecord f) []
+
+-- ALL RULES. "Lower numbers come first, except 14 to 20, which follow the walk."
+unfoldable pub rules : Input → List Rule
+rules i = findRules i ++ decideRules (i .window) (i .policyRecord) (found i)

@@ -1,87 +1,96 @@
-// The last stages: the policy record, the policy file and its lists, rules 23 to 29. The image is hashed once, where every rule before has passed.
+// What the policy decides, rules 23 to 29: the policy record, the policy file and its lists. The image is hashed once, where every rule before has
+// passed.
+use crate::Answer;
+use crate::Found;
 use crate::Verdict;
+use crate::refused;
+use decision::Criteria;
 use decision::RecordAnswer;
-use heap::OsSinitData;
 use mle::Image;
-use sinit::ModuleData;
 ghost use mathlib.Core.Path.{_≡_};
+ghost use Rattle.decision.specs.Lists.{noList};
 ghost use Rattle.launch.specs.Inner as spec;
 
-// No pages, no list, a digest of zeros.
-pub fn refusal(n: u32) -> Verdict
+// No pages, and the answer of a refusal.
+pub(crate) fn refusal(n: u32) -> Verdict
     ensures { λ r. ⌜ r ≡ spec.refusal n ⌝ }
 {
     Verdict {
-        number: n,
+        answer: refused(n),
         image: Image {
             window: 0,
             tables: 0,
             first: 0,
             count: 0,
         },
-        list: decision::NO_LIST,
-        digest: [0u8; 32],
+    }
+}
+
+// The pages, the list and the digest.
+fn permission(f: Found, list: u32, digest: [u8; 32]) -> Verdict
+    ensures { λ r. ⌜ r ≡ spec.permissionWith f list digest ⌝ }
+{
+    let image = f.image;
+    let answer = Answer {
+        number: 0,
+        pages: image.count,
+        list: list,
+        digest: digest,
+    };
+    Verdict {
+        answer: answer,
+        image: image,
     }
 }
 
 // Rule 29, by the policy file.
-fn from_file(window: &[u8], file: &[u8], m: ModuleData, image: Image) -> Verdict
-    ensures { λ r. ⌜ r ≡ spec.fileStage (now (window .entry)) (now (file .entry)) m image ⌝ }
+fn by_file(window: &[u8], file: &[u8], f: Found) -> Verdict
+    ensures { λ r. ⌜ r ≡ spec.fileStage (now (window .entry)) (now (file .entry)) f ⌝ }
 {
+    let image = f.image;
     let digest = mle::digest(window, image);
-    let list = decision::lowest_permitting(file, &digest, m.acm_version);
+    let criteria = Criteria {
+        digest: digest,
+        acm_version: f.acm_version,
+    };
+    let list = decision::lowest_permitting(file, criteria);
     if list == decision::NO_LIST {
         return refusal(29);
     }
-    Verdict {
-        number: 0,
-        image: image,
-        list: list,
-        digest: digest,
-    }
+    permission(f, list, digest)
 }
 
-// Rules 26 to 28.
-fn from_list(window: &[u8], policy: &[u8], o: OsSinitData, m: ModuleData, image: Image) -> Verdict
-    ensures { λ r. ⌜ r ≡ spec.listStage (now (window .entry)) (now (policy .entry)) o m image ⌝ }
+// Rules 26 to 29.
+fn by_lists(window: &[u8], record: &[u8], f: Found) -> Verdict
+    ensures { λ r. ⌜ r ≡ spec.listStage (now (window .entry)) (now («record» .entry)) f ⌝ }
 {
-    if !decision::file_placed(window, image.window, o.policy_file_base, o.policy_file_size) {
+    let place = f.policy_file;
+    if !decision::file_placed(window, f.window_base, place.base, place.size) {
         return refusal(26);
     }
-    let file = decision::file(window, image.window, o.policy_file_base, o.policy_file_size);
-    let fault = decision::file_fault(file, policy);
+    let file = decision::file(window, f.window_base, place.base, place.size);
+    let fault = decision::file_fault(file, record);
     if fault != 0 {
         return refusal(fault);
     }
-    from_file(window, file, m, image)
+    by_file(window, file, f)
 }
 
 // Under ANY every image is permitted.
-fn from_any(window: &[u8], image: Image) -> Verdict
-    ensures { λ r. ⌜ r ≡ spec.permission (now (window .entry)) image 255 ⌝ }
+fn by_any(window: &[u8], f: Found) -> Verdict
+    ensures { λ r. ⌜ r ≡ spec.permission (now (window .entry)) f noList ⌝ }
 {
-    let digest = mle::digest(window, image);
-    Verdict {
-        number: 0,
-        image: image,
-        list: decision::NO_LIST,
-        digest: digest,
-    }
+    let image = f.image;
+    permission(f, decision::NO_LIST, mle::digest(window, image))
 }
 
 // Rules 23 to 25, and 26 to 29 under LIST.
-pub fn from_record(
-    window: &[u8],
-    policy: &[u8],
-    o: OsSinitData,
-    m: ModuleData,
-    image: Image,
-) -> Verdict
-    ensures { λ r. ⌜ r ≡ spec.recordStage (now (window .entry)) (now (policy .entry)) o m image ⌝ }
+pub(crate) fn decide(window: &[u8], record: &[u8], f: Found) -> Verdict
+    ensures { λ r. ⌜ r ≡ spec.decideStage (now (window .entry)) (now («record» .entry)) f ⌝ }
 {
-    match decision::record(policy, m.flags, m.acm_version) {
+    match decision::kind(record, f.flags, f.acm_version) {
         RecordAnswer::Refused(n) => refusal(n),
-        RecordAnswer::Any => from_any(window, image),
-        RecordAnswer::List => from_list(window, policy, o, m, image),
+        RecordAnswer::Any => by_any(window, f),
+        RecordAnswer::List => by_lists(window, record, f),
     }
 }

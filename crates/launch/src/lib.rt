@@ -1,15 +1,21 @@
 // The check: whether the next launch will succeed, as one number, and on permission the pages of the MLE and their digest.
 //
-// Each stage tries its rules and hands on to the next one; the first rule that fails gives the number. Only the last step writes the page list.
+// Two stages in turn: what the launch finds (rules 1 to 22), and what the policy decides (rules 23 to 29). The first rule that fails gives the
+// number. Only the last step writes the page list.
 mod decide;
-mod stages;
+mod find;
 
+use decide::decide;
+use decide::refusal;
+use find::find;
 use mle::Image;
-use stages::judge;
+use range::Range;
 ghost use mathlib.Core.Path.{_≡_};
 ghost use lib.ListN.{length};
 ghost use Rattle.launch.specs.Rules.{inputOf};
+ghost use Rattle.launch.specs.Answer as spec;
 ghost use Rattle.launch.specs.Answer.{answerOf, placesOf};
+ghost use Rattle.launch.specs.Inner.{judged};
 
 // The numbers of the platform.
 pub struct Platform {
@@ -32,12 +38,55 @@ pub struct Answer {
     pub digest: [u8; 32],
 }
 
-// What was judged: the number, where the pages of the MLE are found, none on a refusal, the list, and the digest.
-pub struct Verdict {
-    pub number: u32,
+// What the launch finds and the policy is asked about: the pages of the MLE, where the window begins, where the policy file stands, and the flags
+// and AcmVersion of the module.
+pub struct Found {
     pub image: Image,
-    pub list: u32,
-    pub digest: [u8; 32],
+    pub window_base: u64,
+    pub policy_file: Range,
+    pub flags: u64,
+    pub acm_version: u64,
+}
+
+// What the launch finds where rules 1 to 22 hold, or the number of the first that fails.
+pub enum FindAnswer {
+    Complete(Found),
+    Refused(u32),
+}
+
+// The answer, and where the pages of the MLE are found, none on a refusal.
+pub struct Verdict {
+    pub answer: Answer,
+    pub image: Image,
+}
+
+// The answer of a refusal: no pages, no list, a digest of zeros.
+pub fn refused(number: u32) -> Answer
+    ensures { λ r. ⌜ r ≡ spec.refused number ⌝ }
+{
+    Answer {
+        number,
+        pages: 0,
+        list: decision::NO_LIST,
+        digest: [0u8; 32],
+    }
+}
+
+// All rules, for a page list of so many places.
+fn judge(
+    window: &[u8],
+    heap: &[u8],
+    sinit: &[u8],
+    record: &[u8],
+    platform: Platform,
+    places: usize,
+) -> Verdict
+    ensures { λ r. ⌜ r ≡ judged (inputOf (now (window .entry)) (now (heap .entry)) (now (sinit .entry)) (now («record» .entry)) platform places) ⌝ }
+{
+    match find(window, heap, sinit, platform, places) {
+        FindAnswer::Refused(n) => refusal(n),
+        FindAnswer::Complete(f) => decide(window, record, f),
+    }
 }
 
 // The answer for what is lent, and on permission the addresses of the pages in the first places of the page list.
@@ -45,21 +94,15 @@ pub fn check(
     window: &[u8],
     heap: &[u8],
     sinit: &[u8],
-    policy: &[u8],
+    record: &[u8],
     platform: Platform,
     pages: &mut [u64],
 ) -> Answer
-    ensures answer { λ r. ⌜ r ≡ answerOf (inputOf (now (window .entry)) (now (heap .entry)) (now (sinit .entry)) (now (policy .entry)) platform (length (now (pages .entry)))) ⌝ }
-    ensures places { λ _. ⌜ now (pages .exit) ≡ placesOf (inputOf (now (window .entry)) (now (heap .entry)) (now (sinit .entry)) (now (policy .entry)) platform (length (now (pages .entry)))) (now (pages .entry)) ⌝ }
+    ensures answer { λ r. ⌜ r ≡ answerOf (inputOf (now (window .entry)) (now (heap .entry)) (now (sinit .entry)) (now («record» .entry)) platform (length (now (pages .entry)))) ⌝ }
+    ensures places { λ _. ⌜ now (pages .exit) ≡ placesOf (inputOf (now (window .entry)) (now (heap .entry)) (now (sinit .entry)) (now («record» .entry)) platform (length (now (pages .entry)))) (now (pages .entry)) ⌝ }
 {
-    let v = judge(window, heap, sinit, policy, platform, pages.len());
+    let v = judge(window, heap, sinit, record, platform, pages.len());
     let image = v.image;
     mle::write_pages(window, image, pages);
-    let digest = v.digest;
-    Answer {
-        number: v.number,
-        pages: image.count,
-        list: v.list,
-        digest: digest,
-    }
+    v.answer
 }

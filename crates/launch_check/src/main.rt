@@ -2,11 +2,12 @@
 use libc::STDIN_FILENO;
 use libc::STDOUT_FILENO;
 
-// The places for pages that are lent.
-const PLACES: usize = 4096;
-
 fn main() {
-    let mut pages = [0u64; PLACES];
-    let a = capture_io::check(STDIN_FILENO, &mut pages);
-    capture_io::print(STDOUT_FILENO, a, &pages);
+    let mut buffer = [0u8; capture::INPUT];
+    let mut pages = [0u64; capture::PLACES];
+    let mut text = [0u8; capture::OUTPUT];
+    let n = capture_io::read_whole(STDIN_FILENO, &mut buffer);
+    let a = capture::check(&buffer[..n], &mut pages);
+    let len = capture::output(a, &pages, &mut text);
+    io::write_all(STDOUT_FILENO, &text[..len]);
 }

@@ -1,23 +1,28 @@
 -- The tests of the rules say what the propositions of the meaning say.
 use Prim.Native.Nat.{ℕ, _%_, _<_}
 use mathlib.Core.Path.{_≡_, refl}
-use mathlib.Core.Logic.{_↔_, inl, inr, ⊎-elim}
-use mathlib.Core.Bool.{true, or-true, false≢true, and-eq-true-iff}
+use mathlib.Core.Logic.{_↔_}
+use mathlib.Core.Bool.{true, false≢true}
 use mathlib.Core.List.{List, [], _∷_, _++_}
-use borrow.Author.Tests.{ltb-true, lt-ltb, eqb-true, eq-eqb}
 use lib.Dec.{lit<}
 use Rattle.range.specs.declared.Range.{Range}
 use Rattle.range.specs.Range.{insideOf, clearOf}
 use Rattle.rules.specs.Rules.{Rule, AllHold}
+use Rattle.rules.specs.Meaning.{Meaning, AllSay}
+use Rattle.rules.proofs.Meaning.{Agree, all-say, agrees}
+use Rattle.rules.proofs.Tests.{_&_, and-exactly, or-exactly, eqb-exactly, ltb-exactly}
 use Rattle.range.proofs.Ranges.{inside-exactly, clear-exactly}
 use Rattle.pages.specs.declared.Kind.{Kind}
+use Rattle.pages.specs.declared.Kind.the-variants.{Pointer, Directory, Page}
 use Rattle.pages.specs.declared.Memory.{Memory}
 use Rattle.pages.specs.declared.levels.State.{State}
-use Rattle.pages.specs.Entry.{addressOf, reservedClear}
+use Rattle.pages.specs.Entry.{addressOf}
 use Rattle.pages.specs.Memory.{pageSize, pageOf, windowOf, forbidden, regions, every, some, allowed, protected}
-use Rattle.pages.specs.Rules.{baseRules, ownRules, entryRules}
-use Rattle.pages.specs.Meaning.{Within, Apart, Every, Some, Placed}
-use Rattle.pages.proofs.Tests.{either}
+use Rattle.pages.specs.Tables.{Found, found}
+use Rattle.pages.specs.Rules.{startOf, afterEntry, baseRules, ownRules, entryRules, rulesFrom, walkRules}
+use Rattle.pages.specs.Meaning.{Within, Apart, Every, Some, Reserved, Placed, baseMeanings, ownMeanings, entryMeanings, meaningsFrom, walkMeanings}
+use Rattle.pages.proofs.Tests.{follows-exactly}
+use Rattle.pages.proofs.Bits.{reserved-exactly}
 
 -- LISTS OF RULES
 
@@ -27,6 +32,12 @@ all-append (r ∷ rs) qs =
     let rest = all-append rs qs in
     (λ h. ((h .0, rest .0 (h .1) .0), rest .0 (h .1) .1), λ h. (h .0 .0, rest .1 (h .0 .1, h .1)))
 
+pub agree-append : (rs qs : List Rule) (ps os : List Meaning) → Agree rs ps → Agree qs os → Agree (rs ++ qs) (ps ++ os)
+agree-append [] qs [] os a b = b
+agree-append [] qs (p ∷ ps) os a b = absurd a
+agree-append (r ∷ rs) qs [] os a b = absurd a
+agree-append (r ∷ rs) qs (p ∷ ps) os a b = (a .0, agree-append rs qs ps os (a .1) b)
+
 -- RANGES
 
 within-exactly : (a b : Range) → 0 < a .size → (insideOf a b ≡ true) ↔ Within a b
@@ -34,66 +45,92 @@ within-exactly a b z = (inside-exactly a b .0, inside-exactly a b .1 z)
 
 every-exactly : (a : Range) (rs : List Range) → (every (clearOf a) rs ≡ true) ↔ Every (Apart a) rs
 every-exactly a [] = (λ e. tt, λ h. refl)
-every-exactly a (r ∷ rs) =
-    let one = clear-exactly a r in
-    let rest = every-exactly a rs in (
-      λ e. let p = and-eq-true-iff _ _ .0 e in (one .0 (p .0), rest .0 (p .1)),
-      λ h. and-eq-true-iff _ _ .1 (one .1 (h .0), rest .1 (h .1)),
-    )
+every-exactly a (r ∷ rs) = and-exactly (clear-exactly a r) (every-exactly a rs)
 
 some-exactly : (a : Range) (rs : List Range) → 0 < a .size → (some (insideOf a) rs ≡ true) ↔ Some (Within a) rs
 some-exactly a [] z = (λ e. absurd (false≢true e), λ h. absurd h)
-some-exactly a (r ∷ rs) z =
-    let one = within-exactly a r z in
-    let rest = some-exactly a rs z in (
-      λ e. ⊎-elim (λ h. inl (one .0 h)) (λ h. inr (rest .0 h)) (either (insideOf a r) (some (insideOf a) rs) e),
-      ⊎-elim (λ h. rw (one .1 h)) (λ h. rw (rest .1 h, or-true (insideOf a r))),
-    )
+some-exactly a (r ∷ rs) z = or-exactly (within-exactly a r z) (some-exactly a rs z)
 
 pub protected-exactly : (m : Memory) (a : ℕ) → (protected m a ≡ true) ↔ Some (Within (pageOf a)) (regions m)
 unfolding protected
 protected-exactly m a = some-exactly (pageOf a) (regions m) (lit< tt)
 
+allowed-exactly : (m : Memory) (a : ℕ) → (allowed m a ≡ true) ↔ Every (Apart (pageOf a)) (forbidden m)
+unfolding allowed
+allowed-exactly m a = every-exactly (pageOf a) (forbidden m)
+
+-- RULES AND MEANINGS
+
+module _ (window : Range) (m : Memory) where
+  own-agree : (k : Kind) (s : State) (l a : ℕ) → Agree (ownRules k m s l a) (ownMeanings k m s l a)
+  own-agree Pointer s l a = (agrees (lit< tt) (ltb-exactly _ _), tt)
+  own-agree Directory s l a = (agrees (lit< tt) (ltb-exactly _ _), tt)
+  own-agree Page s l a = (agrees (lit< tt) (follows-exactly s l), (agrees (lit< tt) (protected-exactly m a), tt))
+
+  pub entry-agree : (k : Kind) (s : State) (l e : ℕ) → Agree (entryRules k window m s l e) (entryMeanings k window m s l e)
+  entry-agree k s l e =
+      agrees (lit< tt) (reserved-exactly k e)
+      & agrees (lit< tt) (within-exactly (pageOf (addressOf e)) window (lit< tt))
+      & agrees (lit< tt) (ltb-exactly _ _)
+      & agrees (lit< tt) (allowed-exactly m (addressOf e))
+      & own-agree k s l (addressOf e)
+
+  pub from-agree : (s : State) (es : List Found) → Agree (rulesFrom window m s es) (meaningsFrom window m s es)
+  unfolding rulesFrom meaningsFrom
+  from-agree s [] = tt
+  from-agree s (e ∷ es) =
+      agree-append (entryRules (e .kind) window m s (e .number) (e .entry)) (rulesFrom window m (afterEntry s e) es)
+      (entryMeanings (e .kind) window m s (e .number) (e .entry))
+      (meaningsFrom window m (afterEntry s e) es)
+      (entry-agree (e .kind) s (e .number) (e .entry))
+      (from-agree (afterEntry s e) es)
+
+  pub base-agree : (t : ℕ) → Agree (baseRules window m t) (baseMeanings window m t)
+  base-agree t =
+      agrees (lit< tt) (eqb-exactly _ _)
+      & agrees (lit< tt) (within-exactly (pageOf t) window (lit< tt))
+      & agrees (lit< tt) (allowed-exactly m t)
+      & tt
+
 module _ (w : List ℕ) (m : Memory) (t : ℕ) where
   abbrev pub window : Range
   window = windowOf w (m .window)
 
-  placed-exactly : (a : ℕ) → ((insideOf (pageOf a) window ≡ true) × (allowed m a ≡ true)) ↔ Placed w m t (pageOf a)
-  unfolding allowed
-  placed-exactly a =
-      let inside = within-exactly (pageOf a) window (lit< tt) in
-      let clear = every-exactly (pageOf a) (forbidden m) in (
-        λ h. record { inside = inside .0 (h .0); clear = clear .0 (h .1) },
-        λ h. (inside .1 (h .inside), clear .1 (h .clear)),
-      )
+  pub walk-agree : Agree (walkRules w m t) (walkMeanings w m t)
+  unfolding walkRules
+  walk-agree =
+      agree-append (baseRules window m t) (rulesFrom window m (startOf t) (found w (m .window) t)) (baseMeanings window m t)
+      (meaningsFrom window m (startOf t) (found w (m .window) t))
+      (base-agree window m t)
+      (from-agree window m (startOf t) (found w (m .window) t))
 
   -- rules 14, 15 and 17
   pub record Sound (k : Kind) (e : ℕ) : Type 0 where
-    pub reserved : reservedClear k e ≡ true
+    pub reserved : Reserved k e
     pub placed : Placed w m t (pageOf (addressOf e))
 
   -- all rules of an entry
   pub record Fine (k : Kind) (s : State) (l e : ℕ) : Type 0 where
     pub sound : Sound k e
     pub above : s .last < addressOf e
-    pub own : AllHold (ownRules k m s l (addressOf e))
+    pub own : AllSay (ownMeanings k m s l (addressOf e))
 
   pub fine-exactly : (k : Kind) (s : State) (l e : ℕ) → AllHold (entryRules k window m s l e) ↔ Fine k s l e
   fine-exactly k s l e =
-      let placed = placed-exactly (addressOf e) in (
-        λ h. record {
-          sound = record { reserved = h .0; placed = placed .0 (h .1 .0, h .1 .1 .1 .0) };
-          above = ltb-true _ _ (h .1 .1 .0);
-          own = h .1 .1 .1 .1;
-        },
+      let say = all-say (entryRules k window m s l e) (entryMeanings k window m s l e) (entry-agree window m k s l e) in (
         λ h.
-            let p = placed .1 (h .sound .placed) in
-            (h .sound .reserved, (p .0, (lt-ltb _ _ (h .above), (p .1, h .own)))),
+            let x = say .0 h in
+            record {
+              sound = record { reserved = x .0; placed = record { inside = x .1 .0; clear = x .1 .1 .1 .0 } };
+              above = x .1 .1 .0;
+              own = x .1 .1 .1 .1;
+            },
+        λ h. say .1 (h .sound .reserved & h .sound .placed .inside & h .above & h .sound .placed .clear & h .own),
       )
 
   pub base-exactly : AllHold (baseRules window m t) ↔ ((t % pageSize ≡ 0) × Placed w m t (pageOf t))
   base-exactly =
-      let placed = placed-exactly t in (
-        λ h. (eqb-true _ _ (h .0), placed .0 (h .1 .0, h .1 .1 .0)),
-        λ h. let p = placed .1 (h .1) in (eq-eqb _ _ (h .0), (p .0, (p .1, tt))),
+      let say = all-say (baseRules window m t) (baseMeanings window m t) (base-agree window m t) in (
+        λ h. let x = say .0 h in (x .0, record { inside = x .1 .0; clear = x .1 .1 .0 }),
+        λ h. say .1 (h .0 & h .1 .inside & h .1 .clear & tt),
       )

@@ -1,4 +1,4 @@
--- Where no rule of the walk fails, the entries that are present obey all of them, and what was met is what there is.
+-- Where no rule of the walk fails, the entries that are present obey all of them, and what was found is what there is.
 use Prim.Native.Nat.{ℕ, suc, _+_, _≤_, _<_}
 use mathlib.Core.Path.{_≡_, refl, sym, _∙_}
 use mathlib.Core.Logic.{⊎-elim}
@@ -6,9 +6,10 @@ use mathlib.Core.Bool.{Bool, true, false, cond, true≢false}
 use mathlib.Core.List.{List}
 use native.Mathlib.Omega.{arith}
 use borrow.Author.Count.{below-more}
-use borrow.Author.Tests.{ltb-true, eqb-true, eqb-false}
+use borrow.Author.Tests.{eqb-true, eqb-false}
 use lib.Dec.{eqb}
 use Rattle.rules.specs.Rules.{AllHold}
+use Rattle.rules.specs.Meaning.{AllSay}
 use Rattle.pages.specs.declared.Kind.{Kind}
 use Rattle.pages.specs.declared.Kind.the-variants.{Pointer, Directory, Page}
 use Rattle.pages.specs.declared.Memory.{Memory}
@@ -16,13 +17,12 @@ use Rattle.pages.specs.declared.levels.State.{State}
 use Rattle.pages.specs.Entry.{presentOf, addressOf}
 use Rattle.pages.specs.Memory.{regions}
 use Rattle.pages.specs.Tables.{levelSize, foundFrom}
-use Rattle.pages.specs.Rules.{mostTables, startOf, afterTable, afterPage, after, afterAll, ownRules, entryRules, rulesFrom, walkRules, metOf}
-use Rattle.pages.specs.Meaning.{Within, Some, position, presentBelow, entry, Present, named, Walks}
-use Rattle.pages.proofs.Tests.{follows-exactly}
+use Rattle.pages.specs.Rules.{mostTables, startOf, afterTable, afterPage, after, afterAll, entryRules, rulesFrom, walkRules, endState}
+use Rattle.pages.specs.Meaning.{Within, Some, position, presentBelow, entry, Present, named, ownMeanings, Walks}
 use Rattle.pages.proofs.Found.{below-none, below-present, below-absent, in-level}
-use Rattle.pages.proofs.Conditions.{protected-exactly, window, Sound, Fine, fine-exactly, base-exactly}
+use Rattle.pages.proofs.Conditions.{window, Sound, Fine, fine-exactly, base-exactly}
 use Rattle.pages.proofs.Invariants.{kept}
-use Rattle.pages.proofs.Stages.{afterPointers, afterDirectories, Stages, stages, met-last}
+use Rattle.pages.proofs.Stages.{afterPointers, afterDirectories, Stages, stages, end-state}
 
 -- what holds below a number, and of it
 upto : (P : ℕ → Type 0) (n : ℕ) → ((i : ℕ) → i < n → P i) → P n → (i : ℕ) → i < suc n → P i
@@ -30,66 +30,54 @@ upto P n below here i h = below-more P n below here i (omega arith)
 
 module _ (w : List ℕ) (m : Memory) (t : ℕ) where
   -- what is known of the entries with numbers below l, where the level began after the address a
-  record Met (k : Kind) (a last l : ℕ) : Type 0 where
+  record Passed (k : Kind) (a last l : ℕ) : Type 0 where
     pub least : a ≤ last
     pub sound : (i : ℕ) → i < l → Present w m t k i → Sound w m t k (entry w m t k i)
     pub above : (i : ℕ) → i < l → Present w m t k i → a < addressOf (entry w m t k i)
     pub below : (i : ℕ) → i < l → Present w m t k i → addressOf (entry w m t k i) ≤ last
-    pub climbs : (i j : ℕ) → i < j → j < l → Present w m t k i → Present w m t k j → addressOf (entry w m t k i) < addressOf (entry w m t k j)
+    pub rising : (i j : ℕ) → i < j → j < l → Present w m t k i → Present w m t k j → addressOf (entry w m t k i) < addressOf (entry w m t k j)
 
-  met-none : (k : Kind) (a : ℕ) → Met k a a 0
-  met-none k a = record {
+  passed-none : (k : Kind) (a : ℕ) → Passed k a a 0
+  passed-none k a = record {
     least = omega arith;
     sound = λ i h. absurd (omega arith);
     above = λ i h. absurd (omega arith);
     below = λ i h. absurd (omega arith);
-    climbs = λ i j h g. absurd (omega arith);
+    rising = λ i j h g. absurd (omega arith);
   }
 
-  met-absent : (k : Kind) (a last l : ℕ) → Met k a last l → presentOf (entry w m t k l) ≡ false → Met k a last (suc l)
-  met-absent k a last l h e =
-      record {
-        least = h .least;
-        sound = upto (λ (i : ℕ). Present w m t k i → Sound w m t k (entry w m t k i)) l (h .sound) (λ p. never p);
-        above = upto (λ (i : ℕ). Present w m t k i → a < addressOf (entry w m t k i)) l (h .above) (λ p. never p);
-        below = upto (λ (i : ℕ). Present w m t k i → addressOf (entry w m t k i) ≤ last) l (h .below) (λ p. never p);
-        climbs = λ i j x y.
-            upto (λ (j : ℕ). i < j → Present w m t k i → Present w m t k j → addressOf (entry w m t k i) < addressOf (entry w m t k j)) l
-            (λ j y x. h .climbs i j x y)
-            (λ x p q. never q)
-            j
-            y
-            x;
-      }
-    where
-      never : {A : Type 0} → Present w m t k l → A
-      never p = absurd (true≢false (sym p ∙ e))
-
-  met-next : (k : Kind) (a last l : ℕ) → Met k a last l → Sound w m t k (entry w m t k l) → last < addressOf (entry w m t k l)
-      → Met k a (addressOf (entry w m t k l)) (suc l)
-  met-next k a last l h s b =
+  -- one number more: where its entry is present, it is sound, above the last address, and at most the new one
+  passed-more : (k : Kind) (a last new l : ℕ) → Passed k a last l → last ≤ new
+      → (Present w m t k l → Sound w m t k (entry w m t k l) × ((last < addressOf (entry w m t k l)) × (addressOf (entry w m t k l) ≤ new)))
+      → Passed k a new (suc l)
+  passed-more k a last new l h le here =
       record {
         least = omega (arith, h .least);
-        sound = upto (λ (i : ℕ). Present w m t k i → Sound w m t k (entry w m t k i)) l (h .sound) (λ p. s);
-        above = upto (λ (i : ℕ). Present w m t k i → a < addressOf (entry w m t k i)) l (h .above) (λ p. omega (arith, h .least));
-        below = upto (λ (i : ℕ). Present w m t k i → addressOf (entry w m t k i) ≤ addressOf (entry w m t k l)) l
-            (λ i x p. omega (arith, h .below i x p))
-            (λ p. omega arith);
-        climbs = λ i j x y.
+        sound = upto (λ (i : ℕ). Present w m t k i → Sound w m t k (entry w m t k i)) l (h .sound) (λ p. here p .0);
+        above = upto (λ (i : ℕ). Present w m t k i → a < addressOf (entry w m t k i)) l (h .above) (λ p. omega (arith, h .least, here p .1 .0));
+        below = upto (λ (i : ℕ). Present w m t k i → addressOf (entry w m t k i) ≤ new) l (λ i x p. omega (arith, h .below i x p)) (λ p. here p .1 .1);
+        rising = λ i j x y.
             upto (λ (j : ℕ). i < j → Present w m t k i → Present w m t k j → addressOf (entry w m t k i) < addressOf (entry w m t k j)) l
-            (λ j y x. h .climbs i j x y)
-            (λ x p q. omega (arith, h .below i x p))
+            (λ j y x. h .rising i j x y)
+            (λ x p q. omega (arith, h .below i x p, here q .1 .0))
             j
             y
             x;
       }
+
+  passed-absent : (k : Kind) (a last l : ℕ) → Passed k a last l → presentOf (entry w m t k l) ≡ false → Passed k a last (suc l)
+  passed-absent k a last l h e = passed-more k a last last l h (omega arith) (λ p. absurd (true≢false (sym p ∙ e)))
+
+  passed-next : (k : Kind) (a last l : ℕ) → Passed k a last l → Sound w m t k (entry w m t k l) → last < addressOf (entry w m t k l)
+      → Passed k a (addressOf (entry w m t k l)) (suc l)
+  passed-next k a last l h s b = passed-more k a last (addressOf (entry w m t k l)) l h (omega arith) (λ p. (s, (b, omega arith)))
 
   -- A LEVEL OF TABLES, with n tables before it
 
   module _ (k : Kind) (table : (s : State) (l a : ℕ) → after k s l a ≡ afterTable s a)
-      (room : (s : State) (l a : ℕ) → AllHold (ownRules k m s l a) → s .tables < mostTables) (a n : ℕ) where
+      (room : (s : State) (l a : ℕ) → AllSay (ownMeanings k m s l a) → s .tables < mostTables) (a n : ℕ) where
     record Tables (s : State) (l : ℕ) : Type 0 where
-      pub met : Met k a (s .last) l
+      pub passed : Passed k a (s .last) l
       pub tables : s .tables ≡ n + presentBelow (entry w m t k) l
       pub most : s .tables ≤ mostTables
       pub first : s .first ≡ 0
@@ -98,7 +86,7 @@ module _ (w : List ℕ) (m : Memory) (t : ℕ) where
     tables-absent : (s : State) (l : ℕ) → Tables s l → presentOf (entry w m t k l) ≡ false → Tables s (suc l)
     tables-absent s l h e =
         record {
-          met = met-absent k a (s .last) l (h .met) e;
+          passed = passed-absent k a (s .last) l (h .passed) e;
           tables = rw (below-absent (entry w m t k) l e) (h .tables);
           most = h .most;
           first = h .first;
@@ -111,7 +99,7 @@ module _ (w : List ℕ) (m : Memory) (t : ℕ) where
         let g = fine-exactly w m t k s l (entry w m t k l) .0 r in
         rw (table s l (addressOf (entry w m t k l)))
         (record {
-          met = met-next k a (s .last) l (h .met) (g .sound) (g .above);
+          passed = passed-next k a (s .last) l (h .passed) (g .sound) (g .above);
           tables = omega (arith, below-present (entry w m t k) l e, h .tables);
           most = omega (arith, room s l (addressOf (entry w m t k l)) (g .own));
           first = h .first;
@@ -123,14 +111,14 @@ module _ (w : List ℕ) (m : Memory) (t : ℕ) where
         → Tables (afterAll s (foundFrom k (entry w m t k) 0 (levelSize k))) (levelSize k)
     tables-end s q e b f c h =
         let o : 0 + levelSize k ≡ levelSize k = omega arith in
-        let none : Tables s 0 = record { met = rw q (met-none k a); tables = omega (arith, below-none (entry w m t k)); most = omega arith; first = f; count = c } in
+        let none : Tables s 0 = record { passed = rw q (passed-none k a); tables = omega (arith, below-none (entry w m t k)); most = omega arith; first = f; count = c } in
         rw o at (kept k (window w m t) m (entry w m t k) Tables tables-absent tables-next (levelSize k) s 0 none h)
 
   -- THE LEVEL OF PAGES
 
   module _ (a : ℕ) where
     record Pages (s : State) (l : ℕ) : Type 0 where
-      pub met : Met Page a (s .last) l
+      pub passed : Passed Page a (s .last) l
       pub present : (i : ℕ) → s .first ≤ i → i < s .first + s .count → Present w m t Page i
       pub only : (i : ℕ) → i < l → Present w m t Page i → (s .first ≤ i) × (i < s .first + s .count)
       pub noPage : s .count ≡ 0 → s .first ≡ 0
@@ -139,7 +127,7 @@ module _ (w : List ℕ) (m : Memory) (t : ℕ) where
     pages-absent : (s : State) (l : ℕ) → Pages s l → presentOf (entry w m t Page l) ≡ false → Pages s (suc l)
     pages-absent s l h e =
         record {
-          met = met-absent Page a (s .last) l (h .met) e;
+          passed = passed-absent Page a (s .last) l (h .passed) e;
           present = h .present;
           only = upto (λ (i : ℕ). Present w m t Page i → (s .first ≤ i) × (i < s .first + s .count)) l (h .only) (λ p. never p);
           noPage = h .noPage;
@@ -162,14 +150,14 @@ module _ (w : List ℕ) (m : Memory) (t : ℕ) where
             → Pages (record { last = addressOf (entry w m t Page l); tables = s .tables; first = b; count = n + 1 }) (suc l)
         with-first b n q p o =
             record {
-              met = met-next Page a (s .last) l (h .met) (g .sound) (g .above);
+              passed = passed-next Page a (s .last) l (h .passed) (g .sound) (g .above);
               present = λ i x y. upto (λ (i : ℕ). b ≤ i → Present w m t Page i) l (λ i y x. p i x y) (λ x. e) i (omega arith) x;
               only = upto (λ (i : ℕ). Present w m t Page i → (b ≤ i) × (i < b + (n + 1))) l
                   (λ i x u. let v = o i x u in omega arith)
                   (λ u. omega arith);
               noPage = λ z. absurd (omega arith);
               protected = upto (λ (i : ℕ). Present w m t Page i → Some (Within (named w m t Page i)) (regions m)) l (h .protected)
-                  (λ p. protected-exactly m (addressOf (entry w m t Page l)) .0 (g .own .1 .0));
+                  (λ p. g .own .1 .0);
             }
 
         by : (none : Bool) → eqb (s .count) 0 ≡ none
@@ -178,7 +166,7 @@ module _ (w : List ℕ) (m : Memory) (t : ℕ) where
             let c : s .count ≡ 0 = eqb-true _ _ z in
             with-first l (s .count) (omega arith) (λ i x y. absurd (omega arith)) (λ i x u. let v = h .only i x u in absurd (omega arith))
         by false z =
-            let q : l ≡ s .first + s .count = ⊎-elim (λ c. absurd (eqb-false _ _ z c)) (λ q. q) (follows-exactly s l .0 (g .own .0)) in
+            let q : l ≡ s .first + s .count = ⊎-elim (λ c. absurd (eqb-false _ _ z c)) (λ q. q) (g .own .0) in
             with-first (s .first) (s .count) q (λ i x y. h .present i x (omega arith)) (h .only)
 
     pages-end : (s : State) → s .last ≡ a → s .first ≡ 0 → s .count ≡ 0
@@ -187,7 +175,7 @@ module _ (w : List ℕ) (m : Memory) (t : ℕ) where
     pages-end s q f c h =
         let o : 0 + levelSize Page ≡ levelSize Page = omega arith in
         let none : Pages s 0 = record {
-          met = rw q (met-none Page a);
+          passed = rw q (passed-none Page a);
           present = λ i x y. absurd (omega arith);
           only = λ i x. absurd (omega arith);
           noPage = λ z. f;
@@ -201,8 +189,8 @@ module _ (w : List ℕ) (m : Memory) (t : ℕ) where
     hold : Stages w m t
     hold = stages w m t .0 h
 
-    full : (s : State) (l a : ℕ) → AllHold (ownRules Pointer m s l a) → s .tables < mostTables
-    full s l a r = ltb-true _ _ (r .0)
+    full : (s : State) (l a : ℕ) → AllSay (ownMeanings Pointer m s l a) → s .tables < mostTables
+    full s l a r = r .0
 
     first : Tables Pointer (λ s l a. refl) full t 1 (afterPointers w m t) (levelSize Pointer)
     first = tables-end Pointer (λ s l a. refl) full t 1 (startOf t) refl refl (omega arith) refl refl (hold .pointers)
@@ -215,40 +203,40 @@ module _ (w : List ℕ) (m : Memory) (t : ℕ) where
         (first .count)
         (hold .directories)
 
-    third : Pages (afterDirectories w m t .last) (metOf w m t) (levelSize Page)
+    third : Pages (afterDirectories w m t .last) (endState w m t) (levelSize Page)
     third =
-        rw (met-last w m t)
+        rw (end-state w m t)
         (pages-end (afterDirectories w m t .last) (afterDirectories w m t) refl (second .first) (second .count) (hold .pages))
 
     inLevel : (k : Kind) (l : ℕ) → Present w m t k l → l < levelSize k
     inLevel k l p = in-level w (m .window) t k l p
 
     sounds : (k : Kind) (l : ℕ) → Present w m t k l → Sound w m t k (entry w m t k l)
-    sounds Pointer l p = first .met .sound l (inLevel Pointer l p) p
-    sounds Directory l p = second .met .sound l (inLevel Directory l p) p
-    sounds Page l p = third .met .sound l (inLevel Page l p) p
+    sounds Pointer l p = first .passed .sound l (inLevel Pointer l p) p
+    sounds Directory l p = second .passed .sound l (inLevel Directory l p) p
+    sounds Page l p = third .passed .sound l (inLevel Page l p) p
 
     above : (k : Kind) (l : ℕ) → Present w m t k l → t < addressOf (entry w m t k l)
-    above Pointer l p = first .met .above l (inLevel Pointer l p) p
-    above Directory l p = omega (arith, first .met .least, second .met .above l (inLevel Directory l p) p)
-    above Page l p = omega (arith, first .met .least, second .met .least, third .met .above l (inLevel Page l p) p)
+    above Pointer l p = first .passed .above l (inLevel Pointer l p) p
+    above Directory l p = omega (arith, first .passed .least, second .passed .above l (inLevel Directory l p) p)
+    above Page l p = omega (arith, first .passed .least, second .passed .least, third .passed .above l (inLevel Page l p) p)
 
-    climbs : (j k : Kind) (i l : ℕ) → Present w m t j i → Present w m t k l → position j i < position k l
+    rising : (j k : Kind) (i l : ℕ) → Present w m t j i → Present w m t k l → position j i < position k l
         → addressOf (entry w m t j i) < addressOf (entry w m t k l)
-    climbs Pointer Pointer i l p q o = first .met .climbs i l (omega arith) (inLevel Pointer l q) p q
-    climbs Pointer Directory i l p q o =
-        omega (arith, first .met .below i (inLevel Pointer i p) p, second .met .above l (inLevel Directory l q) q)
-    climbs Pointer Page i l p q o =
-        omega (arith, first .met .below i (inLevel Pointer i p) p, second .met .least, third .met .above l (inLevel Page l q) q)
-    climbs Directory Pointer i l p q o = absurd (omega (arith, inLevel Pointer l q))
-    climbs Directory Directory i l p q o = second .met .climbs i l (omega arith) (inLevel Directory l q) p q
-    climbs Directory Page i l p q o =
-        omega (arith, second .met .below i (inLevel Directory i p) p, third .met .above l (inLevel Page l q) q)
-    climbs Page Pointer i l p q o = absurd (omega (arith, inLevel Pointer l q))
-    climbs Page Directory i l p q o = absurd (omega (arith, inLevel Directory l q))
-    climbs Page Page i l p q o = third .met .climbs i l (omega arith) (inLevel Page l q) p q
+    rising Pointer Pointer i l p q o = first .passed .rising i l (omega arith) (inLevel Pointer l q) p q
+    rising Pointer Directory i l p q o =
+        omega (arith, first .passed .below i (inLevel Pointer i p) p, second .passed .above l (inLevel Directory l q) q)
+    rising Pointer Page i l p q o =
+        omega (arith, first .passed .below i (inLevel Pointer i p) p, second .passed .least, third .passed .above l (inLevel Page l q) q)
+    rising Directory Pointer i l p q o = absurd (omega (arith, inLevel Pointer l q))
+    rising Directory Directory i l p q o = second .passed .rising i l (omega arith) (inLevel Directory l q) p q
+    rising Directory Page i l p q o =
+        omega (arith, second .passed .below i (inLevel Directory i p) p, third .passed .above l (inLevel Page l q) q)
+    rising Page Pointer i l p q o = absurd (omega (arith, inLevel Pointer l q))
+    rising Page Directory i l p q o = absurd (omega (arith, inLevel Directory l q))
+    rising Page Page i l p q o = third .passed .rising i l (omega arith) (inLevel Page l q) p q
 
-    pub walks : Walks w m t (metOf w m t .first) (metOf w m t .count)
+    pub walks : Walks w m t (endState w m t .first) (endState w m t .count)
     walks =
         let base = base-exactly w m t .0 (hold .base) in
         record {
@@ -257,7 +245,7 @@ module _ (w : List ℕ) (m : Memory) (t : ℕ) where
           reserved = λ k l p. sounds k l p .reserved;
           placed = λ k l p. sounds k l p .placed;
           above = above;
-          climbs = climbs;
+          rising = rising;
           tables = omega (arith, first .tables, second .tables, second .most);
           pages = third .present;
           only = λ l p. third .only l (inLevel Page l p) p;

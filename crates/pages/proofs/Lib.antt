@@ -1,9 +1,11 @@
 -- The laws that other crates cite.
 pub mod Tests
+pub mod Bits
 pub mod Found
 pub mod Joined
-pub mod Turns
 pub mod Conditions
+pub mod Tried
+pub mod Answer
 pub mod Invariants
 pub mod Stages
 pub mod Holding

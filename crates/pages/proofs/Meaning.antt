@@ -8,7 +8,8 @@ use native.Mathlib.Omega.{arith}
 use borrow.Author.Tests.{ltb-true, ltb-false}
 use lib.Dec.{ltb}
 use Rattle.rules.specs.Rules.{firstFailing}
-use Rattle.rules.proofs.Rules.{all-exactly, first-exactly}
+use Rattle.rules.proofs.Rules.{all-exactly}
+use Rattle.rules.proofs.Answers.{number-of, value-exactly, number-exactly, number-means}
 use Rattle.pages.specs.declared.Kind.{Kind}
 use Rattle.pages.specs.declared.Kind.the-variants.{Pointer, Directory, Page}
 use Rattle.pages.specs.declared.Memory.{Memory}
@@ -17,10 +18,11 @@ use Rattle.pages.specs.declared.WalkAnswer.the-variants.{Mapped, Refused
 use Rattle.pages.specs.Entry.{addressOf}
 use Rattle.pages.specs.Memory.{pageSize, pageOf}
 use Rattle.pages.specs.Tables.{levelSize}
-use Rattle.pages.specs.Rules.{walkRules, metOf, answerOf, walkOf, numberOf}
-use Rattle.pages.specs.Meaning.{Apart, position, entry, Present, named, Walks, MappedExactly, RefusedExactly, FoundByWalk}
+use Rattle.pages.specs.Rules.{walkRules, endState, answerOf, walkOf, numberOf}
+use Rattle.pages.specs.Meaning.{Apart, position, entry, Present, named, Walks, walkMeanings, MappedExactly, RefusedExactly, FoundByWalk}
 use Rattle.pages.proofs.Found.{in-level}
-use Rattle.pages.proofs.Turns.{walk-numbered}
+use Rattle.pages.proofs.Conditions.{walk-agree}
+use Rattle.pages.proofs.Answer.{walk-numbered}
 use Rattle.pages.proofs.Holding.{walks}
 use Rattle.pages.proofs.Permits.{permits, walks-unique}
 
@@ -31,28 +33,28 @@ different e = let z : _≡_ {A = ℕ} 0 1 = cc in omega arith
 
 pub mapped-answer : (k : ℕ) (s : State) (f n : ℕ) → (answerOf k s ≡ Mapped f n) ↔ ((k ≡ 0) × ((s .first ≡ f) × (s .count ≡ n)))
 unfolding answerOf
-mapped-answer zero s f n = (λ e. let a : s .first ≡ f = cc in let b : s .count ≡ n = cc in (refl, (a, b)), λ h. rw (h .1 .0, h .1 .1))
-mapped-answer (suc k) s f n = (λ e. absurd (different (sym e)), λ h. absurd (omega arith))
+mapped-answer k s f n =
+    let value = value-exactly Refused (Mapped (s .first) (s .count)) (Mapped f n) (λ j e. different (sym e)) k in (
+      λ e. let h = value .0 e in let q = h .1 in let a : s .first ≡ f = cc in let b : s .count ≡ n = cc in (h .0, (a, b)),
+      λ h. value .1 (h .0, rw (h .1 .0, h .1 .1)),
+    )
+
+same : (j n : ℕ) → Refused j ≡ Refused n → j ≡ n
+same j n e = cc
 
 pub refused-answer : (k : ℕ) (s : State) (n : ℕ) → (answerOf k s ≡ Refused n) ↔ ((0 < n) × (k ≡ n))
 unfolding answerOf
-refused-answer zero s n = (λ e. absurd (different e), λ h. absurd (omega arith))
-refused-answer (suc k) s n = (λ e. let h : suc k ≡ n = cc in (omega arith, h), λ h. rw (h .1))
-
-number-of : (k : ℕ) (s : State) → numberOf (answerOf k s) ≡ k
-unfolding answerOf
-number-of zero s = refl
-number-of (suc k) s = refl
+refused-answer k s n = number-exactly Refused (Mapped (s .first) (s .count)) (λ j e. different e) same k n
 
 -- the number of the answer is that of the first rule that fails
 pub number-is-first : (w : List ℕ) (m : Memory) (t : ℕ) → numberOf (walkOf w m t) ≡ firstFailing (walkRules w m t)
-unfolding walkOf
-number-is-first w m t = number-of (firstFailing (walkRules w m t)) (metOf w m t)
+unfolding walkOf answerOf
+number-is-first w m t = number-of Refused (Mapped (endState w m t .first) (endState w m t .count)) numberOf refl (λ n. refl) (firstFailing (walkRules w m t))
 
 pub mapped-exactly : MappedExactly
 unfolding walkOf
 mapped-exactly w m t f n =
-    let answer = mapped-answer (firstFailing (walkRules w m t)) (metOf w m t) f n in
+    let answer = mapped-answer (firstFailing (walkRules w m t)) (endState w m t) f n in
     let passed = all-exactly (walkRules w m t) (walk-numbered w m t) in (
       λ e. let a = answer .0 e in rw (a .1 .0, a .1 .1) at (walks w m t (passed .0 (a .0))),
       λ h.
@@ -69,12 +71,12 @@ mapped-below w m t f n e = by n (mapped-exactly w m t f n .0 e)
     by (suc n) h = omega (arith, in-level w (m .window) t Page (f + n) (h .pages (f + n) (omega arith) (omega arith)))
 
 pub refused-exactly : RefusedExactly
-unfolding walkOf
+unfolding walkOf answerOf
 refused-exactly w m t n =
-    let answer = refused-answer (firstFailing (walkRules w m t)) (metOf w m t) n in (
-      λ e. let a = answer .0 e in (a .0, first-exactly (walkRules w m t) n (a .0) .0 (a .1)),
-      λ h. answer .1 (h .0, first-exactly (walkRules w m t) n (h .0) .1 (h .1)),
-    )
+    number-means Refused (Mapped (endState w m t .first) (endState w m t .count)) (walkRules w m t) (walkMeanings w m t) (walk-agree w m t)
+    (λ j e. different e)
+    same
+    n
 
 -- WHAT WAS FOUND
 
@@ -91,7 +93,7 @@ pub found-by-walk : FoundByWalk
 found-by-walk w m t f n e = record {
   present = there;
   only = h .only;
-  climb = climb;
+  rising = rising;
   inside = λ k x. h .placed Page (f + k) (there k x) .inside;
   apart = pair;
   base = λ k x. apart _ t (on-page _) (h .aligned) (λ z. omega (arith, h .above Page (f + k) (there k x)));
@@ -107,18 +109,18 @@ found-by-walk w m t f n e = record {
     there : (k : ℕ) → k < n → Present w m t Page (f + k)
     there k x = h .pages (f + k) (omega arith) (omega arith)
 
-    climb : (j k : ℕ) → j < k → k < n → addressOf (entry w m t Page (f + j)) < addressOf (entry w m t Page (f + k))
-    climb j k x y = h .climbs Page Page (f + j) (f + k) (there j (omega arith)) (there k y) (omega arith)
+    rising : (j k : ℕ) → j < k → k < n → addressOf (entry w m t Page (f + j)) < addressOf (entry w m t Page (f + k))
+    rising j k x y = h .rising Page Page (f + j) (f + k) (there j (omega arith)) (there k y) (omega arith)
 
     differ : (j k : ℕ) → j < n → k < n → j ≢ k → addressOf (entry w m t Page (f + j)) ≢ addressOf (entry w m t Page (f + k))
     differ j k x y d z = by (ltb j k) refl
       where
         by : (b : Bool) → ltb j k ≡ b → ⊥
-        by true o = omega (arith, climb j k (ltb-true j k o) y)
-        by false o = let l = ltb-false j k o in let g : k < j = omega (arith, d) in omega (arith, climb k j g x)
+        by true o = omega (arith, rising j k (ltb-true j k o) y)
+        by false o = let l = ltb-false j k o in let g : k < j = omega (arith, d) in omega (arith, rising k j g x)
 
     pair : (j k : ℕ) → j < n → k < n → j ≢ k → Apart (named w m t Page (f + j)) (named w m t Page (f + k))
     pair j k x y d = apart _ _ (on-page _) (on-page _) (differ j k x y d)
 
     table : (j : Kind) (k i : ℕ) → k < n → Present w m t j i → position j i < position Page (f + k) → Apart (named w m t Page (f + k)) (named w m t j i)
-    table j k i x p o = apart _ _ (on-page _) (on-page _) (λ z. omega (arith, h .climbs j Page i (f + k) p (there k x) o))
+    table j k i x p o = apart _ _ (on-page _) (on-page _) (λ z. omega (arith, h .rising j Page i (f + k) p (there k x) o))

@@ -5,21 +5,20 @@ use mathlib.Core.Logic.{inl, inr}
 use mathlib.Core.Bool.{Bool, true, false, cond, true≢false}
 use mathlib.Core.List.{List}
 use native.Mathlib.Omega.{arith}
-use borrow.Author.Tests.{lt-ltb, leb-true, leb-false, eq-eqb, ne-eqb}
+use borrow.Author.Tests.{leb-true, leb-false, eq-eqb, ne-eqb}
 use lib.Dec.{leb, eqb}
 use Rattle.rules.specs.Rules.{AllHold}
+use Rattle.rules.specs.Meaning.{AllSay}
 use Rattle.pages.specs.declared.Kind.{Kind}
 use Rattle.pages.specs.declared.Kind.the-variants.{Pointer, Directory, Page}
 use Rattle.pages.specs.declared.Memory.{Memory}
 use Rattle.pages.specs.declared.levels.State.{State}
 use Rattle.pages.specs.Entry.{presentOf, addressOf}
-use Rattle.pages.specs.Memory.{protected}
 use Rattle.pages.specs.Tables.{levelSize}
-use Rattle.pages.specs.Rules.{mostTables, startOf, afterTable, afterPage, after, afterAll, ownRules, entryRules, rulesFrom, walkRules}
-use Rattle.pages.specs.Meaning.{position, presentBelow, entry, Present, Walks}
-use Rattle.pages.proofs.Tests.{follows-exactly}
+use Rattle.pages.specs.Rules.{mostTables, startOf, afterTable, afterPage, after, afterAll, entryRules, rulesFrom, walkRules}
+use Rattle.pages.specs.Meaning.{position, presentBelow, entry, Present, ownMeanings, Walks}
 use Rattle.pages.proofs.Found.{below-none, below-present, below-absent, below-more}
-use Rattle.pages.proofs.Conditions.{protected-exactly, window, fine-exactly, base-exactly}
+use Rattle.pages.proofs.Conditions.{window, fine-exactly, base-exactly}
 use Rattle.pages.proofs.Invariants.{passes}
 use Rattle.pages.proofs.Stages.{level, afterPointers, afterDirectories, stages}
 
@@ -36,7 +35,7 @@ module _ (w : List ℕ) (m : Memory) (t f n : ℕ) (h : Walks w m t f n) where
   Ahead s p = (k : Kind) (l : ℕ) → p ≤ position k l → Present w m t k l → s .last < addressOf (entry w m t k l)
 
   -- an entry obeys all rules where it obeys those of its kind
-  entry-holds : (k : Kind) (s : State) (l : ℕ) → Ahead s (position k l) → Present w m t k l → AllHold (ownRules k m s l (addressOf (entry w m t k l)))
+  entry-holds : (k : Kind) (s : State) (l : ℕ) → Ahead s (position k l) → Present w m t k l → AllSay (ownMeanings k m s l (addressOf (entry w m t k l)))
       → AllHold (entryRules k (window w m t) m s l (entry w m t k l))
   entry-holds k s l a p o =
       fine-exactly w m t k s l (entry w m t k l) .1
@@ -45,7 +44,7 @@ module _ (w : List ℕ) (m : Memory) (t f n : ℕ) (h : Walks w m t f n) where
   -- A LEVEL OF TABLES, with b tables before it
 
   module _ (k : Kind) (table : (s : State) (l a : ℕ) → after k s l a ≡ afterTable s a)
-      (own : (s : State) (l a : ℕ) → s .tables < mostTables → AllHold (ownRules k m s l a)) (b : ℕ)
+      (own : (s : State) (l a : ℕ) → s .tables < mostTables → AllSay (ownMeanings k m s l a)) (b : ℕ)
       (most : b + presentBelow (entry w m t k) (levelSize k) ≤ mostTables) where
     record Tables (s : State) (l : ℕ) : Type 0 where
       pub ahead : Ahead s (position k l)
@@ -64,7 +63,7 @@ module _ (w : List ℕ) (m : Memory) (t f n : ℕ) (h : Walks w m t f n) where
         let one = below-present (entry w m t k) l p in (
           entry-holds k s l (i .ahead) p (own s l _ (omega (arith, i .tables))),
           rw (table s l (addressOf (entry w m t k l)))
-              (record { ahead = λ j x q g. h .climbs k j l x p g (omega arith); tables = omega (arith, i .tables); count = i .count }),
+              (record { ahead = λ j x q g. h .rising k j l x p g (omega arith); tables = omega (arith, i .tables); count = i .count }),
         )
 
     tables-pass : (s : State) → Ahead s (position k 0) → s .tables ≡ b → s .count ≡ 0
@@ -97,17 +96,14 @@ module _ (w : List ℕ) (m : Memory) (t f n : ℕ) (h : Walks w m t f n) where
       u = h .only l p
 
       ahead : Ahead (afterPage s l (addressOf (entry w m t Page l))) (position Page (suc l))
-      ahead j x q g = h .climbs Page j l x p g (omega arith)
-
-      safe : protected m (addressOf (entry w m t Page l)) ≡ true
-      safe = protected-exactly m (addressOf (entry w m t Page l)) .1 (h .protected l p)
+      ahead j x q g = h .rising Page j l x p g (omega arith)
 
       by : (x : Bool) → leb l f ≡ x
           → AllHold (entryRules Page (window w m t) m s l (entry w m t Page l)) × Pages (afterPage s l (addressOf (entry w m t Page l))) (suc l)
       by true q =
           let le = leb-true l f q in
           let c = i .before le in (
-            entry-holds Page s l (i .ahead) p (follows-exactly s l .1 (inl c), (safe, tt)),
+            entry-holds Page s l (i .ahead) p (inl c, (h .protected l p, tt)),
             record {
               ahead = ahead;
               before = λ x. absurd (omega (arith, u));
@@ -117,7 +113,7 @@ module _ (w : List ℕ) (m : Memory) (t f n : ℕ) (h : Walks w m t f n) where
       by false q =
           let lt = leb-false l f q in
           let c = i .inside lt (omega (arith, u)) in (
-            entry-holds Page s l (i .ahead) p (follows-exactly s l .1 (inr (omega (arith, c .0, c .1))), (safe, tt)),
+            entry-holds Page s l (i .ahead) p (inr (omega (arith, c .0, c .1)), (h .protected l p, tt)),
             record {
               ahead = ahead;
               before = λ x. absurd (omega (arith, u));
@@ -127,8 +123,8 @@ module _ (w : List ℕ) (m : Memory) (t f n : ℕ) (h : Walks w m t f n) where
 
   -- ALL LEVELS
 
-  room : (s : State) (l a : ℕ) → s .tables < mostTables → AllHold (ownRules Pointer m s l a)
-  room s l a x = (lt-ltb _ _ x, tt)
+  room : (s : State) (l a : ℕ) → s .tables < mostTables → AllSay (ownMeanings Pointer m s l a)
+  room s l a x = (x, tt)
 
   pub permits : AllHold (walkRules w m t)
   permits =

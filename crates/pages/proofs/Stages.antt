@@ -1,4 +1,4 @@
--- The rules of the walk, level by level, and what was met after each level.
+-- The rules of the walk, level by level, and what was found after each level.
 use Prim.Native.Nat.{ℕ}
 use mathlib.Core.Path.{_≡_, _∙_}
 use mathlib.Core.Logic.{_↔_}
@@ -9,9 +9,9 @@ use Rattle.pages.specs.declared.Kind.the-variants.{Pointer, Directory, P
 use Rattle.pages.specs.declared.Memory.{Memory}
 use Rattle.pages.specs.declared.levels.State.{State}
 use Rattle.pages.specs.Tables.{Found, levelSize, foundFrom, foundIn, found}
-use Rattle.pages.specs.Rules.{startOf, afterAll, baseRules, rulesFrom, walkRules, metOf}
+use Rattle.pages.specs.Rules.{startOf, afterAll, baseRules, rulesFrom, walkRules, endState}
 use Rattle.pages.specs.Meaning.{entry}
-use Rattle.pages.proofs.Turns.{rules-append, after-append}
+use Rattle.pages.proofs.Tried.{rules-append, after-append}
 use Rattle.pages.proofs.Conditions.{all-append, window}
 
 module _ (w : List ℕ) (m : Memory) (t : ℕ) where
@@ -50,6 +50,6 @@ module _ (w : List ℕ) (m : Memory) (t : ℕ) where
         λ h. base .1 (h .base, first .1 (h .pointers, second .1 (h .directories, h .pages))),
       )
 
-  pub met-last : metOf w m t ≡ afterAll afterDirectories (level Page)
-  unfolding metOf found foundIn
-  met-last = after-append (startOf t) (level Pointer) (level Directory ++ level Page) ∙ after-append afterPointers (level Directory) (level Page)
+  pub end-state : endState w m t ≡ afterAll afterDirectories (level Page)
+  unfolding endState found foundIn
+  end-state = after-append (startOf t) (level Pointer) (level Directory ++ level Page) ∙ after-append afterPointers (level Directory) (level Page)

@@ -1,14 +1,15 @@
 -- What the tests of the code say: tests in order, the bits of an entry, rule 19 without a sum, and what is read of a table.
 use Prim.Native.Nat.{ℕ, _+_, _*_, _-_, _≤_, _<_}
 use mathlib.Core.Path.{_≡_, refl, sym}
-use mathlib.Core.Logic.{_↔_, _⊎_, inl, inr, ⊎-elim}
-use mathlib.Core.Bool.{Bool, true, false, not, _&&_, _||_, or-true}
+use mathlib.Core.Logic.{_↔_, _⊎_}
+use mathlib.Core.Bool.{Bool, true, false, _&&_, _||_}
 use mathlib.Core.List.{List}
 use native.Mathlib.Omega.{arith}
-use borrow.Author.Tests.{lt-ltb, le-ltb, eq-eqb, ne-eqb, eqb-true, eqb-false, not-true, not-false}
+use borrow.Author.Tests.{lt-ltb, le-ltb, eq-eqb, ne-eqb, eqb-true, eqb-false}
 use lib.Dec.{eqb}
 use Rattle.field.specs.Field.{numberAt}
 use Rattle.range.specs.Range.{insideOf}
+use Rattle.rules.proofs.Tests.{eqb-exactly, or-exactly}
 use Rattle.pages.specs.declared.Kind.{Kind}
 use Rattle.pages.specs.declared.Kind.the-variants.{Pointer, Directory, Page}
 use Rattle.pages.specs.declared.levels.State.{State}
@@ -19,17 +20,17 @@ use Rattle.pages.specs.Rules.{follows}
 
 -- TESTS IN ORDER
 
-pub all-stop : (r t later : Bool) → r ≡ t → not r ≡ true → false ≡ (t && later)
-all-stop r t later e h = rw (← e, not-true r h)
+pub all-stop : (r t later : Bool) → r ≡ t → r ≡ false → r ≡ (t && later)
+all-stop r t later e h = rw (← e, h)
 
-pub all-pass : (r t x later : Bool) → r ≡ t → not r ≡ false → x ≡ later → x ≡ (t && later)
-all-pass r t x later e h f = rw (← e, not-false r h, f)
+pub all-pass : (r t x later : Bool) → r ≡ t → r ≡ true → x ≡ later → x ≡ (t && later)
+all-pass r t x later e h f = rw (← e, h, f)
 
 pub all-last : (r t : Bool) → r ≡ t → r ≡ (t && true)
 all-last true t e = rw (← e)
 all-last false t e = rw (← e)
 
-pub some-stop : (r t later : Bool) → r ≡ t → r ≡ true → true ≡ (t || later)
+pub some-stop : (r t later : Bool) → r ≡ t → r ≡ true → r ≡ (t || later)
 some-stop r t later e h = rw (← e, h)
 
 pub some-pass : (r t x later : Bool) → r ≡ t → r ≡ false → x ≡ later → x ≡ (t || later)
@@ -72,19 +73,9 @@ module _ (s : State) (l : ℕ) where
       simp (ne-eqb (s .count) 0 h)
       (eqb-iff (l - s .first) (s .count) l (s .first + s .count) (λ e. omega arith) (λ e. omega arith))
 
-pub either : (a b : Bool) → (a || b) ≡ true → (a ≡ true) ⊎ (b ≡ true)
-either true b e = inl refl
-either false b e = inr e
-
 pub follows-exactly : (s : State) (l : ℕ) → (follows s l ≡ true) ↔ ((s .count ≡ 0) ⊎ (l ≡ s .first + s .count))
 unfolding follows
-follows-exactly s l = (
-  λ e. ⊎-elim (λ h. inl (eqb-true _ _ h)) (λ h. inr (eqb-true _ _ h)) (either (eqb (s .count) 0) (eqb l (s .first + s .count)) e),
-  ⊎-elim (λ h. rw (eq-eqb (s .count) 0 h)) (λ h. rw (eq-eqb l (s .first + s .count) h, or-true (eqb (s .count) 0))),
-)
-
-pub follows-room : (s : State) (l : ℕ) → follows s l ≡ true → s .count ≤ l
-follows-room s l e = ⊎-elim (λ h. omega arith) (λ h. omega arith) (follows-exactly s l .0 e)
+follows-exactly s l = or-exactly (eqb-exactly _ _) (eqb-exactly _ _)
 
 -- ENTRIES
 

@@ -23,7 +23,7 @@ abbrev pub orElse : ℕ → ℕ → ℕ
 orElse zero later = later
 orElse (suc n) later = suc n
 
--- after entries in turn: the number of the first rule that fails and, where none does, what was met
+-- after entries in turn: the number of the first rule that fails and, where none does, what was found
 pub record Tried (window : Range) (m : Memory) (before after : Run) (es : List Found) : Type 0 where
   pub number : after .number ≡ orElse (before .number) (firstFailing (rulesFrom window m (before .state) es))
   pub state : after .number ≡ 0 → after .state ≡ afterAll (before .state) es

@@ -1,20 +1,21 @@
 -- What the walk means, as plain statements: `Walked` of a walk that refuses nothing, and `Walks`, the rules that it then obeys, exactly.
-use Prim.Native.Nat.{ℕ, zero, suc, _+_, _*_, _%_, _≤_, _<_}
+use Prim.Native.Nat.{ℕ, zero, suc, _+_, _*_, _/_, _%_, _^_, _≤_, _<_}
 use mathlib.Core.Path.{_≡_}
 use mathlib.Core.Logic.{_↔_, _⊎_, _≢_}
 use mathlib.Core.Bool.{true, cond}
-use mathlib.Core.List.{List, [], _∷_}
+use mathlib.Core.List.{List, [], _∷_, _++_}
 use Rattle.range.specs.declared.Range.{Range}
 use Rattle.range.specs.Range.{Has}
-use Rattle.rules.specs.Rules.{FirstFails}
+use Rattle.rules.specs.Meaning.{Meaning, meaning, FirstBroken}
 use Rattle.pages.specs.declared.Memory.{Memory}
 use Rattle.pages.specs.declared.Kind.{Kind}
 use Rattle.pages.specs.declared.Kind.the-variants.{Pointer, Directory, Page}
 use Rattle.pages.specs.declared.WalkAnswer.the-variants.{Mapped, Refused}
-use Rattle.pages.specs.Entry.{presentOf, addressOf, reservedClear}
+use Rattle.pages.specs.declared.levels.State.{State}
+use Rattle.pages.specs.Entry.{presentOf, addressOf}
 use Rattle.pages.specs.Memory.{pageSize, pageOf, windowOf, forbidden, regions}
-use Rattle.pages.specs.Tables.{entryAt, levelSize}
-use Rattle.pages.specs.Rules.{mostTables, walkRules, walkOf}
+use Rattle.pages.specs.Tables.{entryAt, levelSize, Found, found}
+use Rattle.pages.specs.Rules.{mostTables, startOf, afterEntry, walkOf}
 
 -- RANGES
 
@@ -33,6 +34,22 @@ Every P (r ∷ rs) = P r × Every P rs
 abbrev pub Some : (Range → Type 0) → List Range → Type 0
 Some P [] = ⊥
 Some P (r ∷ rs) = P r ⊎ Some P rs
+
+-- BITS
+
+-- bit i of a number, 0 the lowest
+abbrev pub bitOf : ℕ → ℕ → ℕ
+bitOf e i = e / 2 ^ i % 2
+
+-- the bits from i to j are 0
+abbrev pub ZeroBits : ℕ → ℕ → ℕ → Type 0
+ZeroBits e i j = (k : ℕ) → i ≤ k → k ≤ j → bitOf e k ≡ 0
+
+-- "Bits 52 to 63 are 0; in a pointer entry also bits 1, 2 and 5 to 8; in a directory entry also bit 7."
+abbrev pub Reserved : Kind → ℕ → Type 0
+Reserved Pointer e = ZeroBits e 52 63 × (ZeroBits e 1 2 × ZeroBits e 5 8)
+Reserved Directory e = ZeroBits e 52 63 × ZeroBits e 7 7
+Reserved Page e = ZeroBits e 52 63
 
 -- ORDER
 
@@ -70,10 +87,10 @@ module _ (w : List ℕ) (m : Memory) (t : ℕ) where
   pub record Walks (f n : ℕ) : Type 0 where
     pub aligned : t % pageSize ≡ 0
     pub basePlaced : Placed (pageOf t)
-    pub reserved : (k : Kind) (l : ℕ) → Present k l → reservedClear k (entry k l) ≡ true
+    pub reserved : (k : Kind) (l : ℕ) → Present k l → Reserved k (entry k l)
     pub placed : (k : Kind) (l : ℕ) → Present k l → Placed (named k l)
     pub above : (k : Kind) (l : ℕ) → Present k l → t < addressOf (entry k l)
-    pub climbs : (j k : Kind) (i l : ℕ) → Present j i → Present k l → position j i < position k l → addressOf (entry j i) < addressOf (entry k l)
+    pub rising : (j k : Kind) (i l : ℕ) → Present j i → Present k l → position j i < position k l → addressOf (entry j i) < addressOf (entry k l)
     pub tables : 1 + presentBelow (entry Pointer) (levelSize Pointer) + presentBelow (entry Directory) (levelSize Directory) ≤ mostTables
     pub pages : (l : ℕ) → f ≤ l → l < f + n → Present Page l
     pub only : (l : ℕ) → Present Page l → (f ≤ l) × (l < f + n)
@@ -85,7 +102,7 @@ module _ (w : List ℕ) (m : Memory) (t : ℕ) where
   pub record Walked (f n : ℕ) : Type 0 where
     pub present : (k : ℕ) → k < n → Present Page (f + k)
     pub only : (l : ℕ) → Present Page l → (f ≤ l) × (l < f + n)
-    pub climb : (j k : ℕ) → j < k → k < n → addressOf (entry Page (f + j)) < addressOf (entry Page (f + k))
+    pub rising : (j k : ℕ) → j < k → k < n → addressOf (entry Page (f + j)) < addressOf (entry Page (f + k))
     pub inside : (k : ℕ) → k < n → Within (named Page (f + k)) (windowOf w (m .window))
     -- no page overlaps another page, the base or another table
     pub apart : (j k : ℕ) → j < n → k < n → j ≢ k → Apart (named Page (f + j)) (named Page (f + k))
@@ -95,13 +112,49 @@ module _ (w : List ℕ) (m : Memory) (t : ℕ) where
     pub clear : (k : ℕ) → k < n → Every (Apart (named Page (f + k))) (forbidden m)
     pub protected : (k : ℕ) → k < n → Some (Within (named Page (f + k))) (regions m)
 
+-- THE RULES IN ORDER
+
+-- "The base is tried for 14, 15, 17."
+abbrev pub baseMeanings : Range → Memory → ℕ → List Meaning
+baseMeanings window m base =
+    meaning 14 (base % pageSize ≡ 0)
+    ∷ meaning 15 (Within (pageOf base) window)
+    ∷ meaning 17 (Every (Apart (pageOf base)) (forbidden m))
+    ∷ []
+
+-- "then a table for 18 and a page for 19, 20", where s was found before
+abbrev pub ownMeanings : Kind → Memory → State → ℕ → ℕ → List Meaning
+ownMeanings Pointer m s l a = meaning 18 (s .tables < mostTables) ∷ []
+ownMeanings Directory m s l a = meaning 18 (s .tables < mostTables) ∷ []
+ownMeanings Page m s l a =
+    meaning 19 ((s .count ≡ 0) ⊎ (l ≡ s .first + s .count)) ∷ meaning 20 (Some (Within (pageOf a)) (regions m)) ∷ []
+
+-- "An entry is tried for 14, 15, 16, 17;"
+abbrev pub entryMeanings : Kind → Range → Memory → State → ℕ → ℕ → List Meaning
+entryMeanings k window m s l e =
+    meaning 14 (Reserved k e)
+    ∷ meaning 15 (Within (pageOf (addressOf e)) window)
+    ∷ meaning 16 (s .last < addressOf e)
+    ∷ meaning 17 (Every (Apart (pageOf (addressOf e))) (forbidden m))
+    ∷ ownMeanings k m s l (addressOf e)
+
+unfoldable pub meaningsFrom : Range → Memory → State → List Found → List Meaning
+meaningsFrom window m s [] = []
+meaningsFrom window m s (e ∷ es) =
+    entryMeanings (e .kind) window m s (e .number) (e .entry) ++ meaningsFrom window m (afterEntry s e) es
+
+-- those of the base, then those of each entry that is present, in breadth-first order
+abbrev pub walkMeanings : List ℕ → Memory → ℕ → List Meaning
+walkMeanings w m t =
+    baseMeanings (windowOf w (m .window)) m t ++ meaningsFrom (windowOf w (m .window)) m (startOf t) (found w (m .window) t)
+
 -- pages are mapped exactly where the rules hold with them
 abbrev pub MappedExactly : Type 0
 MappedExactly = (w : List ℕ) (m : Memory) (t f n : ℕ) → (walkOf w m t ≡ Mapped f n) ↔ Walks w m t f n
 
--- a number is answered exactly where the first rule that fails, of the base and of all entries in turn, has it
+-- a number is answered exactly where it is that of the first rule that is broken
 abbrev pub RefusedExactly : Type 0
-RefusedExactly = (w : List ℕ) (m : Memory) (t n : ℕ) → (walkOf w m t ≡ Refused n) ↔ ((0 < n) × FirstFails (walkRules w m t) n)
+RefusedExactly = (w : List ℕ) (m : Memory) (t n : ℕ) → (walkOf w m t ≡ Refused n) ↔ FirstBroken (walkMeanings w m t) n
 
 -- what a walk that refuses nothing has found
 abbrev pub FoundByWalk : Type 0

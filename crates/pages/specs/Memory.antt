@@ -19,12 +19,12 @@ abbrev pub windowOf : List ℕ → ℕ → Range
 windowOf w base = record { base = base; size = length w }
 
 -- "0xA0000 to 0xFFFFF"
-abbrev pub hole : Range
-hole = record { base = 0xA0000; size = 0x60000 }
+abbrev pub lowForbidden : Range
+lowForbidden = record { base = 0xA0000; size = 0x60000 }
 
 -- "clear of 0xA0000 to 0xFFFFF, of the heap and of the module"
 abbrev pub forbidden : Memory → List Range
-forbidden m = hole ∷ m .heap ∷ m .sinit ∷ []
+forbidden m = lowForbidden ∷ m .heap ∷ m .sinit ∷ []
 
 -- "DPR, the low PMR or the high PMR"
 abbrev pub regions : Memory → List Range

@@ -1,11 +1,11 @@
 -- The rules of the walk, in the order they are tried: those of the base, then those of each entry that is present, in breadth-first order.
-use Prim.Native.Nat.{ℕ, zero, suc, _+_, _%_}
+use Prim.Native.Nat.{ℕ, _+_, _%_}
 use mathlib.Core.Bool.{Bool, cond, _||_}
 use mathlib.Core.List.{List, [], _∷_, _++_}
 use lib.Dec.{ltb, eqb}
 use Rattle.range.specs.declared.Range.{Range}
 use Rattle.range.specs.Range.{insideOf}
-use Rattle.rules.specs.Rules.{Rule, rule, firstFailing}
+use Rattle.rules.specs.Rules.{Rule, rule, firstFailing, answerFor}
 use Rattle.pages.specs.declared.Kind.{Kind}
 use Rattle.pages.specs.declared.Kind.the-variants.{Pointer, Directory, Page}
 use Rattle.pages.specs.declared.Memory.{Memory}
@@ -20,7 +20,7 @@ use Rattle.pages.specs.Tables.{Found, found}
 abbrev pub mostTables : ℕ
 mostTables = 16
 
--- what was met so far: the last address found, how many tables, the first linear page and how many pages. "the first one the base"
+-- what was found so far: the last address found, how many tables, the first linear page and how many pages. "the first one the base"
 abbrev pub startOf : ℕ → State
 startOf base = record { last = base; tables = 1; first = 0; count = 0 }
 
@@ -81,17 +81,16 @@ unfoldable pub walkRules : List ℕ → Memory → ℕ → List Rule
 walkRules w m t =
     baseRules (windowOf w (m .window)) m t ++ rulesFrom (windowOf w (m .window)) m (startOf t) (found w (m .window) t)
 
--- what was met when all entries were tried
-unfoldable pub metOf : List ℕ → Memory → ℕ → State
-metOf w m t = afterAll (startOf t) (found w (m .window) t)
+-- what was found when all entries were tried
+unfoldable pub endState : List ℕ → Memory → ℕ → State
+endState w m t = afterAll (startOf t) (found w (m .window) t)
 
 -- the answer for a number: 0 gives the first linear page and how many there are, every other is a refusal
 unfoldable pub answerOf : ℕ → State → WalkAnswer
-answerOf zero s = Mapped (s .first) (s .count)
-answerOf (suc n) s = Refused (suc n)
+answerOf n s = answerFor Refused (Mapped (s .first) (s .count)) n
 
 unfoldable pub walkOf : List ℕ → Memory → ℕ → WalkAnswer
-walkOf w m t = answerOf (firstFailing (walkRules w m t)) (metOf w m t)
+walkOf w m t = answerOf (firstFailing (walkRules w m t)) (endState w m t)
 
 -- the number of an answer
 abbrev pub numberOf : WalkAnswer → ℕ

@@ -25,9 +25,9 @@ ghost use Rattle.pages.specs.Inner.{Room, Tried};
 
 const MOST_TABLES: u64 = 16;
 
-const DIRECTORIES: u64 = 2048;
+const DIRECTORIES: u64 = POINTERS * ENTRIES;
 
-// What was met so far: the last address found, how many tables, the first linear page, how many pages.
+// What was found so far: the last address found, how many tables, the first linear page, how many pages.
 pub struct State {
     pub last: u64,
     pub tables: u64,
@@ -35,7 +35,7 @@ pub struct State {
     pub count: u32,
 }
 
-// The number of the rule that failed, 0 so far, and what was met before it.
+// The number of the rule that failed, 0 so far, and what was found before it.
 pub struct Run {
     pub number: u32,
     pub state: State,
@@ -86,7 +86,7 @@ fn base_fault(w: &[u8], m: Memory, t: u64) -> u32
     unless(t % PAGE_SIZE == 0, 14, place)
 }
 
-// What was met after one table more.
+// What was found after one table more.
 fn with_table(s: State, a: u64) -> State
     requires { ⌜ s .tables < mostTables ⌝ }
     ensures { λ r. ⌜ r ≡ afterTable s a ⌝ }
@@ -99,7 +99,7 @@ fn with_table(s: State, a: u64) -> State
     }
 }
 
-// What was met after one page more: the first one gives the first linear page.
+// What was found after one page more: the first one gives the first linear page.
 fn with_page(s: State, l: u64, a: u64) -> State
     requires { ⌜ (s .count ≤ l) × (l < levelSize Page) ⌝ }
     ensures { λ r. ⌜ r ≡ afterPage s l a ⌝ }
@@ -113,8 +113,8 @@ fn with_page(s: State, l: u64, a: u64) -> State
     }
 }
 
-// What was met after an entry that breaks no rule.
-fn met(kind: Kind, s: State, l: u64, a: u64) -> State
+// What was found after an entry that breaks no rule.
+fn after_entry(kind: Kind, s: State, l: u64, a: u64) -> State
     requires { ⌜ Room kind s l × (l < levelSize Page) ⌝ }
     ensures { λ r. ⌜ r ≡ after kind s l a ⌝ }
 {
@@ -141,7 +141,7 @@ fn step(kind: Kind, w: &[u8], m: Memory, r: Run, l: u64, e: u64) -> Run
     if number != 0 {
         return Run { number, state };
     }
-    let next = met(kind, state, l, address(e));
+    let next = after_entry(kind, state, l, address(e));
     Run {
         number: 0,
         state: next,
@@ -218,9 +218,9 @@ pub fn walk(w: &[u8], m: Memory, t: u64) -> WalkAnswer
     if end.number != 0 {
         return WalkAnswer::Refused(end.number);
     }
-    let met = end.state;
+    let found = end.state;
     WalkAnswer::Mapped {
-        first: met.first,
-        count: met.count,
+        first: found.first,
+        count: found.count,
     }
 }

@@ -7,10 +7,10 @@ ghost use Rattle.pages.specs.Memory.{pageOf, windowOf, allowed, protecte
 
 pub const PAGE_SIZE: u64 = 4096;
 
-// The first byte of the hole below 1 MiB, and how many bytes it has.
-const HOLE_BASE: u64 = 0xA0000;
+// The forbidden range below 1 MiB, 0xA0000 to 0xFFFFF.
+const LOW_BASE: u64 = 0xA0000;
 
-const HOLE_SIZE: u64 = 0x60000;
+const LOW_SIZE: u64 = 0x60000;
 
 // Whether the page at a lies inside the window w that begins at `base`.
 pub fn in_window(w: &[u8], base: u64, a: u64) -> bool
@@ -27,7 +27,7 @@ pub fn in_window(w: &[u8], base: u64, a: u64) -> bool
     range::inside(page, window)
 }
 
-// Rule 17: clear of the hole, of the heap and of the module.
+// Rule 17: clear of the forbidden range below 1 MiB, of the heap and of the module.
 pub fn is_allowed(m: Memory, a: u64) -> bool
     ensures { λ r. ⌜ r ≡ allowed m a ⌝ }
 {
@@ -35,17 +35,11 @@ pub fn is_allowed(m: Memory, a: u64) -> bool
         base: a,
         size: PAGE_SIZE,
     };
-    let hole = Range {
-        base: HOLE_BASE,
-        size: HOLE_SIZE,
+    let low = Range {
+        base: LOW_BASE,
+        size: LOW_SIZE,
     };
-    if !range::clear(page, hole) {
-        return false;
-    }
-    if !range::clear(page, m.heap) {
-        return false;
-    }
-    range::clear(page, m.sinit)
+    range::clear(page, low) && (range::clear(page, m.heap) && range::clear(page, m.sinit))
 }
 
 // Rule 20: wholly in DPR, in the low PMR or in the high PMR.
@@ -56,11 +50,5 @@ pub fn is_protected(m: Memory, a: u64) -> bool
         base: a,
         size: PAGE_SIZE,
     };
-    if range::inside(page, m.dpr) {
-        return true;
-    }
-    if range::inside(page, m.low) {
-        return true;
-    }
-    range::inside(page, m.high)
+    range::inside(page, m.dpr) || (range::inside(page, m.low) || range::inside(page, m.high))
 }

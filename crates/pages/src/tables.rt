@@ -5,7 +5,7 @@ use crate::entry::present;
 use crate::placement::in_window;
 ghost use mathlib.Core.Path.{_≡_};
 ghost use Prim.Native.Nat.{_≤_};
-ghost use Rattle.pages.specs.Tables.{readOf, underOf, pointerAt, directoryAt, pageAt, entryAt};
+ghost use Rattle.pages.specs.Tables.{entries, readOf, underOf, pointerAt, directoryAt, pageAt, entryAt};
 
 pub const POINTERS: u64 = 4;
 
@@ -13,7 +13,7 @@ pub const ENTRIES: u64 = 512;
 
 // Entry i of the n of the table at a; 0, which is not present, where there is none.
 fn read(w: &[u8], base: u64, a: u64, n: u64, i: u64) -> u64
-    requires { ⌜ n ≤ 512 ⌝ }
+    requires { ⌜ n ≤ entries ⌝ }
     ensures { λ r. ⌜ r ≡ readOf (now (w .entry)) base a n i ⌝ }
 {
     if n <= i {

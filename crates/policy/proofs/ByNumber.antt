@@ -10,10 +10,10 @@ use lib.Seq.{length-take-le}
 use borrow.Author.Tests.{leb-true}
 use mir.Val.{Fits}
 use mir.Syntax.{w8}
-use Rattle.policy.specs.Grammar.{All, Element, elementBytes, ValidElement, Signing, PolicyList, listBytes, ValidList, Reading}
-use Rattle.policy.specs.Grammar as Grammar
-use Rattle.policy.specs.Decode.{accepted}
-use Rattle.policy.specs.Answers.{sized, fileShown, listShown, signingShown, elementsOf, listsIn, place, listAnswer, elementIn, elementAnswer}
+use Rattle.policy_grammar.specs.Grammar.{All, Element, elementBytes, ValidElement, Signing, PolicyList, listBytes, ValidList, Reading}
+use Rattle.policy_grammar.specs.Grammar as Grammar
+use Rattle.policy_grammar.specs.Decode.{accepted, sized}
+use Rattle.policy.specs.Answers.{fileShown, listShown, signingShown, elementsOf, listsIn, place, listAnswer, elementIn, elementAnswer}
 use Rattle.policy.specs.declared.FileAnswer.{FileAnswer}
 use Rattle.policy.specs.declared.FileAnswer.the-variants as files
 use Rattle.policy.specs.declared.ListAnswer.{ListAnswer}
@@ -22,7 +22,7 @@ use Rattle.policy.specs.declared.PartAnswer.{PartAnswer}
 use Rattle.policy.specs.declared.PartAnswer.the-variants as parts
 use Rattle.policy.specs.declared.ElementAnswer.{ElementAnswer}
 use Rattle.policy.specs.declared.ElementAnswer.the-variants.{Refused}
-use Rattle.policy.proofs.Offsets.{drop-take}
+use Rattle.policy.proofs.Heads.{drop-take}
 use Rattle.policy.proofs.Places.{accepted-sound, lists-stand, list-at, elements-part, elements-fit}
 
 -- a list

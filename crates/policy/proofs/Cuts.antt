@@ -7,7 +7,7 @@ use mathlib.Core.List.{List, [], _∷_, _++_, flatMap, append-assoc}
 use mathlib.Core.Option.{some, none}
 use lib.ListN.{length, take, drop, getElem?, length-append}
 use lib.Seq.{drop-drop, drop-append-seam}
-use Rattle.policy.specs.Grammar.{All}
+use Rattle.policy_grammar.specs.Grammar.{All}
 
 pub all-drop : {A : Type 0} (P : A → Type 0) (xs : List A) (k : ℕ) → All P xs → All P (drop k xs)
 all-drop P xs zero h = h

@@ -1,36 +1,39 @@
 -- Demand 3: `demand3`. The reading is that with which the reader accepts the string; the grammar makes the string from it alone, and each answer shows its part.
-use Prim.Native.Nat.{ℕ, _+_, _≤_}
+use Prim.Native.Nat.{ℕ, _+_, _≤_, _<_}
 use native.Mathlib.Omega.{arith}
 use mathlib.Core.Path.{_≡_, refl, sym, _∙_, subst}
-use mathlib.Core.Logic.{⊎-elim}
+use mathlib.Core.Logic.{_⊎_, ⊎-elim}
 use mathlib.Core.Bool.{Bool, true, false, cond, and-eq-true-iff}
 use mathlib.Core.List.{List}
-use mathlib.Core.Option.{Option, some, none}
+use mathlib.Core.Option.{Option, some, none, Option·map}
 use lib.ListN.{length, getElem?}
 use borrow.Author.Tests.{leb-true}
 use Rattle.field.specs.Number.{Bytes}
 use Rattle.policy.specs.declared.Answers.{Answers}
 use Rattle.policy.specs.declared.FileAnswer.the-variants.{WrongSize, NotOfGrammar}
-use Rattle.policy.specs.Grammar.{listBytes, Element, PolicyList, Reading, Makes}
-use Rattle.policy.specs.Decode.{accepted}
-use Rattle.policy.specs.Answers.{sized, fileShown, elementIn, place, listAnswer, keyAnswer, signatureAnswer, elementAnswer}
-use Rattle.policy.specs.Demand3.{Demand3, Answered, Says, Shows, answersOf, numberOf, countOf, seenElement}
-use Rattle.policy.proofs.Decoding.{unique}
+use Rattle.policy_grammar.specs.Grammar.{bodyBytes, listBytes, Element, PolicyList, Reading, Makes}
+use Rattle.policy_grammar.specs.Decode.{accepted, sized}
+use Rattle.policy.specs.Answers.{fileShown, elementIn, place, listAnswer, keyAnswer, signatureAnswer, elementAnswer}
+use Rattle.policy.specs.Demand3.{Demand3, Answered, MadeFrom, IsReadingOf, Shows, answersOf, numberOf, countOf, seenElement, seenBody}
+use Rattle.policy_grammar.proofs.Decoding.{unique}
 use Rattle.policy.proofs.Places.{accepted-sound, accepted-complete, list-at, element-at}
-use Rattle.policy.proofs.Seen.{list-seen, key-seen, signature-seen, element-seen}
+use Rattle.policy.proofs.Seen.{list-seen, key-seen, signature-seen, element-seen, body-seen}
 
 inside : (s : List ℕ) → sized s ≡ true → (36 ≤ length s) × (length s ≤ 65536)
 inside s e = let p = and-eq-true-iff _ _ .0 e in (leb-true _ _ (p .0), leb-true _ _ (p .1))
 
-says : (s : List ℕ) → Bytes s → Says s (accepted s)
-says s b = go (accepted s) refl
+is-reading : (s : List ℕ) → Bytes s → IsReadingOf s (accepted s)
+is-reading s b = record { made = λ h. made h (accepted s) refl; outside = λ u. outside u (accepted s) refl; one = λ r r′ m m′. unique r r′ s m m′ }
   where
-    go : (o : Option Reading) → accepted s ≡ o → Says s (accepted s)
-    go none q =
-        rw q (record { made = λ h r m. (let e : some r ≡ none = sym (accepted-complete r s m h) ∙ q in let z : _≡_ {A = ℕ} 0 1 = cc in omega arith); outside = λ e. refl })
-    go (some r) q =
-        let w = accepted-sound s r b q in
-        rw q (record { made = λ h. (w .0, λ r′ m. unique r′ r s m (w .0)); outside = λ u. absurd (⊎-elim (λ l. omega (arith, inside s (w .1) .0)) (λ l. omega (arith, inside s (w .1) .1)) u) })
+    made : length s ≤ 65536 → (o : Option Reading) → accepted s ≡ o → MadeFrom s o
+    made h none q = λ r m. (let e : some r ≡ none = sym (accepted-complete r s m h) ∙ q in let z : _≡_ {A = ℕ} 0 1 = cc in omega arith)
+    made h (some r) q = accepted-sound s r b q .0
+
+    outside : (length s < 36) ⊎ (65536 < length s) → (o : Option Reading) → accepted s ≡ o → o ≡ none
+    outside u none q = refl
+    outside u (some r) q =
+        let w = inside s (accepted-sound s r b q .1) in
+        absurd (⊎-elim (λ l. omega (arith, w .0)) (λ l. omega (arith, w .1)) u)
 
 -- a refused string has no number but 26 and 27, and no lists
 refused-number : (x : Bool) → (numberOf (cond x NotOfGrammar WrongSize) ≡ cond x 27 26) × (countOf (cond x NotOfGrammar WrongSize) ≡ 0)
@@ -39,20 +42,23 @@ refused-number false = (refl, refl)
 
 shows-none : (s : List ℕ) (i j : ℕ) → Shows s none i j (answersOf s none i j)
 shows-none s i j =
-    record { number = refused-number (sized s) .0; count = refused-number (sized s) .1; list = refl; key = refl; signature = refl; element = refl; places = refl }
+    record { number = refused-number (sized s) .0; count = refused-number (sized s) .1; list = refl; key = refl; signature = refl; element = refl; body = refl; places = refl }
 
 -- the parts of a list that is there or not
 module _ (r : Reading) (s : List ℕ) (m : Makes r s) (i j : ℕ) where
   abbrev at : ℕ
   at = place listBytes 36 (r .lists) i
 
-  element-of : (l : PolicyList) → getElem? (r .lists) i ≡ some l → (o : Option Element) → getElem? (l .elements) j ≡ o → seenElement s (elementIn (at + 8) (l .elements) j) ≡ o
-  element-of l q none h = rw h
-  element-of l q (some e) h = rw h (element-seen s _ e (element-at s at l (list-at r s m i l q) j e h))
+  element-of : (l : PolicyList) → getElem? (r .lists) i ≡ some l → (o : Option Element) → getElem? (l .elements) j ≡ o
+      → (seenElement s (elementIn (at + 8) (l .elements) j) ≡ o) × (seenBody s (elementIn (at + 8) (l .elements) j) ≡ Option·map (λ (e : Element). bodyBytes (e .body)) o)
+  element-of l q none h = (rw h, rw h)
+  element-of l q (some e) h =
+      let here = element-at s at l (list-at r s m i l q) j e h in
+      (rw h (element-seen s _ e here), rw h (body-seen s _ e here))
 
   shows-some : (o : Option PolicyList) → getElem? (r .lists) i ≡ o → Shows s (some r) i j (answersOf s (some r) i j)
   shows-some none q =
-      record { number = refl; count = sym (m .valid .counted); list = rw q; key = rw q; signature = rw q; element = rw q; places = refl }
+      record { number = refl; count = sym (m .valid .counted); list = rw q; key = rw q; signature = rw q; element = rw q; body = rw q; places = refl }
   shows-some (some l) q =
       let here = list-at r s m i l q in
       record {
@@ -61,7 +67,8 @@ module _ (r : Reading) (s : List ℕ) (m : Makes r s) (i j : ℕ) where
         list = rw q (list-seen s at l here);
         key = rw q (key-seen s at l here);
         signature = rw q (signature-seen s at l here);
-        element = rw q (element-of l q (getElem? (l .elements) j) refl);
+        element = rw q (element-of l q (getElem? (l .elements) j) refl .0);
+        body = rw q (element-of l q (getElem? (l .elements) j) refl .1);
         places = refl;
       }
 
@@ -73,7 +80,7 @@ shows s b i j = go (accepted s) refl
     go (some r) q = rw q (shows-some r s (accepted-sound s r b q .0) i j (getElem? (r .lists) i) refl)
 
 pub demand3 : Demand3
-demand3 s b = (accepted s, says s b, shows s b)
+demand3 s b = (accepted s, is-reading s b, shows s b)
 
 -- the answers of one call, each as its own contract has it
 pub answered : (s : List ℕ) → Bytes s → (i j : ℕ) (a : Answers) → a .file ≡ fileShown s (accepted s) → a .list ≡ listAnswer (accepted s) i → a .key ≡ keyAnswer (accepted s) i

@@ -1,134 +1,173 @@
 -- What is answered of an element, by the tests that lead to each answer.
-use Prim.Native.Nat.{ℕ, _+_, _*_, _-_, _≤_, _<_, _^_}
-use native.Mathlib.Nat.{mul-le-mul, le-of-lt, lt-of-le-of-lt}
+use Prim.Native.Nat.{ℕ, zero, suc, _+_, _*_, _-_, _≤_, _<_, _^_}
+use native.Mathlib.Nat.{suc-mul, zero-mul, mul-le-mul, le-of-lt, lt-of-le-of-lt}
 use native.Mathlib.Decide.{decLe}
 use native.Mathlib.Omega.{arith}
-use mathlib.Core.Path.{_≡_, refl, ap, _∙_}
-use mathlib.Core.Bool.{Bool, true, false, _&&_, and-false}
-use mathlib.Core.List.{List}
-use mathlib.Core.Option.{some, none}
-use lib.ListN.{length, take, drop, length-drop}
+use mathlib.Core.Path.{_≡_, refl, ap, sym, _∙_}
+use mathlib.Core.Bool.{Bool, true, false, _&&_, not, and-false}
+use mathlib.Core.List.{List, [], _∷_, append-nil}
+use mathlib.Core.Option.{some, none, Option·map}
+use lib.ListN.{length, getD, take, drop, length-drop}
 use lib.Seq.{drop-drop, length-take-le}
-use lib.Dec.{leb, lit<}
-use borrow.Author.Tests.{le-leb, lt-leb, eq-eqb, ne-eqb}
+use lib.Dec.{leb, eqb, lit<}
+use borrow.Author.Tests.{le-leb, lt-leb, eq-eqb, ne-eqb, eqb-true, eqb-false, not-true, not-false}
+use mir.Val.{Fits}
+use mir.Syntax.{w8}
+use Rattle.field.specs.Number.{Bytes, bytes}
 use Rattle.field.specs.Number as Number
 use Rattle.field.specs.Field.{numberAt}
-use Rattle.policy.specs.Grammar.{digestLength, Body, Element}
-use Rattle.policy.specs.Grammar as Grammar
-use Rattle.policy.specs.Parser.{Read, value, fault, valueOf, Parser, after, continue, _>>=_, done, number, string, any, anyBytes, rest, exactly, inside, times}
-use Rattle.policy.specs.Decode as Decode
+use Rattle.field.proofs.Laws.{bytes-drop, number-bytes}
+use Rattle.policy_grammar.specs.Grammar.{digestLength, Digests, digestsBytes, Body, Element}
+use Rattle.policy_grammar.specs.Grammar as Grammar
+use Rattle.policy_grammar.specs.Format.{Format, done, _>>=_, number, string, any, anyBytes, rest, inside, times}
+use Rattle.policy_grammar.specs.Parser.{Read, value, fault, valueOf, succeeds, after, continue, exactly, read, filling, fills}
+use Rattle.policy_grammar.specs.Layout as Layout
+use Rattle.policy_grammar.specs.Decode as Decode
+use Rattle.policy_grammar.specs.Fault.{Stands}
 use Rattle.policy.specs.Answers.{elementShown}
 use Rattle.policy.specs.Inner.{withBody}
 use Rattle.policy.specs.declared.ElementAnswer.{ElementAnswer}
 use Rattle.policy.specs.declared.ElementAnswer.the-variants.{Launch, Custom, Unjudged, Refused}
-use Rattle.policy.proofs.Offsets.{at-offset, from-offset}
-use Rattle.policy.proofs.Steps.{value-after, after-after, exactly-none, number-then, number-wrong, number-needs, any-needs, strings-read, Needs}
+use Rattle.policy_grammar.proofs.Formats.{read-then, then-stands}
+use Rattle.policy_grammar.proofs.Soundness.{done-complete, rest-complete, filling-value, fills-with, fills-none}
+use Rattle.policy_grammar.proofs.Decoding.{digests-sound}
+use Rattle.policy.proofs.Heads.{Upto, upto-start, number-holds, number-wrong, last-value, last-filling, inside-value, exactly-none, Needs, any-needs, number-needs, at-offset, from-offset}
 
 -- a count of 16 bits times a digest's length fits
 pub small-product : {m k : ℕ} → m < 65536 → k ≤ 64 → m * k < 2 ^ 64
 small-product {m} {k} h l = lt-of-le-of-lt (mul-le-mul {n₂ = 65536} {m₂ = 64} (le-of-lt h) l) (lit< tt)
 
--- a launch element's body
+-- the digests of an algorithm
 abbrev algRule : ℕ → ℕ → Bool
 algRule left a = leb 1 (digestLength a)
 
 abbrev countRule : ℕ → ℕ → ℕ → Bool
 countRule a left n = leb (n * digestLength a) left
 
-abbrev digestsOf : ℕ → ℕ → ℕ → ℕ → Parser Body
-digestsOf m v a n =
-    times n (string (digestLength a) anyBytes) >>= λ ds. done (Grammar.launch (record { sinitMinVersion = m; reserved = v; hashAlg = a; count = n; digests = ds }))
+abbrev digestsOf : ℕ → ℕ → Format Digests
+digestsOf a n = times n (string (digestLength a) anyBytes) >>= λ ds. done (record { hashAlg = a; count = n; digests = ds })
 
-launch-needs : Needs 6 Decode.launch
-unfolding Decode.launch
-launch-needs =
-    number-needs 1 5 any _ λ m. number-needs 1 4 any _ λ v. number-needs 2 2 algRule _ λ a. number-needs 2 0 (countRule a) (digestsOf m v a) λ n. any-needs (digestsOf m v a n)
+digests-need : Needs 4 Layout.digests
+unfolding Layout.digests
+digests-need = number-needs 2 2 algRule _ λ a. number-needs 2 0 (countRule a) (digestsOf a) λ n. any-needs (digestsOf a n)
 
-module _ (b : List ℕ) (start size control : ℕ) where
-  abbrev launched : ElementAnswer
-  launched = elementShown start (withBody size 0x10 control (valueOf (exactly (length b) (Decode.launch b))))
+-- n fields of k bytes that fit
+strings-read : (n k : ℕ) (s : List ℕ) → n * k ≤ length s → (ds : List (List ℕ)) × (read (times n (string k anyBytes)) s ≡ value ds (n * k))
+unfolding times string _>>=_ read after continue
+strings-read zero k s h = ([], ap (value []) (sym (zero-mul k)))
+strings-read (suc n) k s h =
+    let m : suc n * k ≡ n * k + k = suc-mul n k in
+    let (ds, e) = strings-read n k (drop k s) (rw length-drop (omega arith)) in
+    (take k s ∷ ds, rw (le-leb k (length s) (omega arith), read-then, e) (ap (value (take k s ∷ ds)) (omega arith)))
 
-  refused : valueOf (exactly (length b) (Decode.launch b)) ≡ none → Refused ≡ launched
-  refused e = rw e
+module _ (t : List ℕ) where
+  unfilled : valueOf (read Layout.digests t) ≡ none → false ≡ fills Layout.digests t
+  unfolding fills exactly
+  unfilled e = go (read Layout.digests t) e
+    where
+      go : (g : Read Digests) → valueOf g ≡ none → false ≡ succeeds (exactly (length t) g)
+      go (value a n) h = let z : _≡_ {A = ℕ} 0 1 = cc in absurd (omega arith)
+      go (fault p) h = refl
 
-  pub launch-short : length b < 6 → Refused ≡ launched
-  launch-short h = refused (exactly-none (length b) (Decode.launch b) (launch-needs b h))
+  pub digests-short : length t < 4 → false ≡ fills Layout.digests t
+  digests-short h = unfilled (digests-need t h)
 
-  module _ (h : 6 ≤ length b) (m v a n k : ℕ) (em : m ≡ numberAt b 0 1) (ev : v ≡ numberAt b 1 1) (ea : a ≡ numberAt b 2 2) (en : n ≡ numberAt b 4 2) (ek : k ≡ digestLength a) where
-    abbrev fromAlg : Parser Body
-    fromAlg = number 2 algRule >>= λ a. number 2 (countRule a) >>= digestsOf m v a
+  module _ (h : 4 ≤ length t) (a k : ℕ) (ea : a ≡ numberAt t 0 2) (ek : k ≡ digestLength a) where
+    from-alg : Upto Layout.digests t 0 (number 2 algRule >>= λ a. number 2 (countRule a) >>= digestsOf a)
+    unfolding Layout.digests
+    from-alg = upto-start Layout.digests t
 
-    abbrev fromCount : Parser Body
-    fromCount = number 2 (countRule a) >>= digestsOf m v a
+    pub digests-unknown : k ≡ 0 → false ≡ fills Layout.digests t
+    digests-unknown z = unfilled (ap valueOf (number-wrong Layout.digests t 0 2 algRule _ from-alg tt tt ea (omega arith) (lt-leb 1 (digestLength a) (omega arith))))
 
-    to-alg : Decode.launch b ≡ after 2 (fromAlg (drop 2 b))
-    unfolding Decode.launch
-    to-alg =
-        let d : drop 1 (drop 1 b) ≡ drop 2 b = drop-drop 1 1 b in
-        number-then 1 any _ b (omega arith) refl
-        ∙ rw (at-offset b 0 1 tt tt em (omega arith), number-then 1 any _ (drop 1 b) (rw length-drop (omega arith)) refl, at-offset b 1 1 tt tt ev (omega arith), d)
-        (after-after 1 1 (fromAlg (drop 2 b)))
+    module _ (known : k ≡ 0 → ⊥) (n : ℕ) (en : n ≡ numberAt t 2 2) where
+      from-count : Upto Layout.digests t 2 (number 2 (countRule a) >>= digestsOf a)
+      from-count = number-holds Layout.digests t 0 2 algRule _ from-alg tt tt ea (omega arith) (le-leb 1 (digestLength a) (omega (arith, known)))
 
-    pub launch-unknown : k ≡ 0 → Refused ≡ launched
-    launch-unknown z =
-        let o : algRule (length (drop 2 b) - 2) (Number.number 2 (drop 2 b)) ≡ false = rw (at-offset b 2 2 tt tt ea (omega arith)) (lt-leb 1 (digestLength a) (omega arith)) in
-        refused (exactly-none (length b) (Decode.launch b) (rw (to-alg, value-after) (number-wrong 2 algRule _ (drop 2 b) o)))
+      product : n * digestLength a ≡ n * k
+      product = rw ek
 
-    module _ (known : k ≡ 0 → ⊥) where
-      to-count : Decode.launch b ≡ after 4 (fromCount (drop 4 b))
-      to-count =
-          let d : drop 2 (drop 2 b) ≡ drop 4 b = drop-drop 2 2 b in
-          let e : Number.number 2 (drop 2 b) ≡ a = at-offset b 2 2 tt tt ea (omega arith) in
-          to-alg ∙ rw (number-then 2 algRule _ (drop 2 b) (rw length-drop (omega arith)) (rw e (le-leb 1 (digestLength a) (omega (arith, known)))), e, d)
-          (after-after 2 2 (fromCount (drop 4 b)))
+      fitting : n * k ≤ length t - 4 → (d : Digests) × (read Layout.digests t ≡ value d (4 + n * k))
+      unfolding _>>=_ read continue after
+      fitting g =
+          let u = number-holds Layout.digests t 2 2 (countRule a) (digestsOf a) from-count tt tt en (omega arith) (le-leb (n * digestLength a) (length t - 4) (omega (arith, product))) in
+          let (ds, e) = strings-read n (digestLength a) (drop 4 t) (rw length-drop (omega (arith, product))) in
+          let d : Digests = record { hashAlg = a; count = n; digests = ds } in
+          (d, u ∙ rw (read-then, e) (ap (value d) (omega (arith, product))))
 
-      e₄ : Number.number 2 (drop 4 b) ≡ n
-      e₄ = at-offset b 4 2 tt tt en (omega arith)
+      over : length t - 4 < n * k → false ≡ fills Layout.digests t
+      over g = unfilled (ap valueOf (number-wrong Layout.digests t 2 2 (countRule a) (digestsOf a) from-count tt tt en (omega arith) (lt-leb (n * digestLength a) (length t - 4) (omega (arith, product)))))
 
-      e₆ : n * digestLength a ≡ n * k
-      e₆ = rw ek
+      within : (x : Bool) → eqb (length t - 4) (n * k) ≡ x → n * k ≤ length t - 4 → x ≡ fills Layout.digests t
+      unfolding fills exactly
+      within true q g = rw (fitting g .1, eq-eqb (4 + n * k) (length t) (omega (arith, eqb-true (length t - 4) (n * k) q)))
+      within false q g = rw (fitting g .1, ne-eqb (4 + n * k) (length t) (λ e. eqb-false (length t - 4) (n * k) q (omega arith)))
 
-      over : length b - 6 < n * k → valueOf (Decode.launch b) ≡ none
-      over g = rw (to-count, value-after) (number-wrong 2 (countRule a) (digestsOf m v a) (drop 4 b) (rw e₄ (lt-leb (n * digestLength a) (length (drop 4 b) - 2) (rw length-drop (omega (arith, e₆))))))
-
-      digests-read : n * k ≤ length b - 6
-          → (ds : List (List ℕ)) × (Decode.launch b ≡ value (Grammar.launch (record { sinitMinVersion = m; reserved = v; hashAlg = a; count = n; digests = ds })) (6 + n * k))
-      unfolding _>>=_ continue done after
-      digests-read g =
-          let d : drop 2 (drop 4 b) ≡ drop 6 b = drop-drop 2 4 b in
-          let o : countRule a (length (drop 4 b) - 2) (Number.number 2 (drop 4 b)) ≡ true = rw e₄ (le-leb (n * digestLength a) (length (drop 4 b) - 2) (rw length-drop (omega (arith, e₆)))) in
-          let w = strings-read n (digestLength a) (drop 6 b) (rw length-drop (omega (arith, e₆))) in
-          let x : Body = Grammar.launch (record { sinitMinVersion = m; reserved = v; hashAlg = a; count = n; digests = w .0 }) in
-          let q : fromCount (drop 4 b) ≡ value x (2 + (n * digestLength a + 0)) = number-then 2 (countRule a) (digestsOf m v a) (drop 4 b) (rw length-drop (omega arith)) o ∙ rw (e₄, d, w .1) in
-          (w .0, to-count ∙ ap (after 4) q ∙ ap (value x) (omega (arith, e₆)))
-
-      pub launch-other : (length b - 6 ≡ n * k → ⊥) → Refused ≡ launched
-      unfolding exactly
-      launch-other g =
-          elim (decLe (n * k) (length b - 6)) [
-            | yes p ↦ refused (rw (digests-read p .1, ne-eqb (6 + n * k) (length b) (λ e. g (omega arith))))
-            | no q ↦ refused (exactly-none (length b) (Decode.launch b) (over (omega arith)))
+      pub digests-fill : eqb (length t - 4) (n * k) ≡ fills Layout.digests t
+      digests-fill =
+          elim (decLe (n * k) (length t - 4)) [
+            | yes p ↦ within (eqb (length t - 4) (n * k)) refl p
+            | no q ↦ (ne-eqb (length t - 4) (n * k) (λ e. omega arith) ∙ over (omega arith))
           ]
 
-      pub launch-yes : length b - 6 ≡ n * k → Launch start size control m v a n ≡ launched
-      unfolding exactly
-      launch-yes g = rw (digests-read (omega arith) .1, eq-eqb (6 + n * k) (length b) (omega arith))
+-- the digests that were read have the numbers at the front of the string
+pub digests-numbers : (s : List ℕ) (d : Digests) → Bytes s → Stands Layout.digests d s [] → (d .hashAlg ≡ Number.number 2 s) × (d .count ≡ Number.number 2 (drop 2 s)) × (4 ≤ length s)
+unfolding bytes
+digests-numbers s d b h =
+    let (x, (v, m), e) = digests-sound s d [] b h in
+    let w : digestsBytes d ≡ s = m ∙ sym (append-nil x) ∙ e in (
+      sym (rw (← w) (number-bytes 2 (d .hashAlg) _ (v .alg-fits))),
+      sym (rw (← w) (number-bytes 2 (d .count) _ (v .count-fits))),
+      rw (← w) (omega arith),
+    )
+
+-- a launch element's body
+module _ (b : List ℕ) (start size control : ℕ) where
+  abbrev launched : ElementAnswer
+  launched = elementShown start (Option·map (withBody size 0x10 control) (valueOf (filling Layout.launch b)))
+
+  abbrev with : ℕ → ℕ → Digests → Body
+  with m v ds = Grammar.launch (record { sinitMinVersion = m; reserved = v; digests = ds })
+
+  pub launch-short : length b < 2 → Refused ≡ launched
+  unfolding Layout.launch
+  launch-short h =
+      let e = number-needs 1 1 any _ (λ m. number-needs 1 0 any (λ v. Layout.digests >>= λ ds. done (with m v ds)) λ v. any-needs _) b h in
+      rw (exactly-none (length b) (read Layout.launch b) e)
+
+  module _ (h : 2 ≤ length b) (bs : (i : ℕ) → Fits w8 (getD b i 0)) (w : Bool) (ew : w ≡ fills Layout.digests (take (length b - 2) (drop 2 b))) where
+    w-is : fills Layout.digests (drop 2 b) ≡ w
+    w-is = sym (ew ∙ ap (fills Layout.digests) (from-offset b 2))
+
+    to-digests : (m v : ℕ) → m ≡ numberAt b 0 1 → v ≡ numberAt b 1 1 → valueOf (filling Layout.launch b) ≡ Option·map (with m v) (valueOf (filling Layout.digests (drop 2 b)))
+    unfolding Layout.launch
+    to-digests m v em ev =
+        let u₁ = number-holds Layout.launch b 0 1 any _ (upto-start Layout.launch b) tt tt em (omega arith) refl in
+        let u₂ = number-holds Layout.launch b 1 1 any _ u₁ tt tt ev (omega arith) refl in
+        last-filling Layout.launch b 2 Layout.digests (with m v) u₂ h
+
+    pub launch-other : not w ≡ true → Refused ≡ launched
+    launch-other q = rw (to-digests _ _ refl refl, fills-none Layout.digests (drop 2 b) (w-is ∙ not-true w q))
+
+    pub launch-yes : not w ≡ false → (m v a n : ℕ) → m ≡ numberAt b 0 1 → v ≡ numberAt b 1 1 → a ≡ numberAt b 2 2 → n ≡ numberAt b 4 2 → Launch start size control m v a n ≡ launched
+    launch-yes q m v a n em ev ea en =
+        let (d, st) = fills-with Layout.digests (drop 2 b) (w-is ∙ not-false w q) in
+        let (i, j, l) = digests-numbers (drop 2 b) d (bytes-drop 2 b (λ k. bs k .fits)) st in
+        let e : drop 2 (drop 2 b) ≡ drop 4 b = drop-drop 2 2 b in
+        let i′ : d .hashAlg ≡ a = i ∙ at-offset b 2 2 tt tt ea (omega (arith, length-drop 2 b)) in
+        let j′ : d .count ≡ n = j ∙ ap (Number.number 2) e ∙ at-offset b 4 2 tt tt en (omega (arith, length-drop 2 b)) in
+        rw (to-digests m v em ev, filling-value Layout.digests (drop 2 b) d st, i′, j′)
 
 -- the element at the front of t
 abbrev sizeRule : ℕ → ℕ → Bool
 sizeRule left n = leb 12 n && leb n (4 + left)
 
-abbrev bodyOf : ℕ → ℕ → ℕ → Parser Element
-bodyOf n t c = inside (n - 12) (Decode.body t) >>= λ b. done (record { size = n; type = t; control = c; body = b })
+abbrev bodyOf : ℕ → ℕ → ℕ → Format Element
+bodyOf n t c = inside (n - 12) (Layout.body t) >>= λ b. done (withBody n t c b)
 
-pub element-needs : Needs 12 Decode.element
-unfolding Decode.element
+pub element-needs : Needs 12 Layout.element
+unfolding Layout.element
 element-needs = number-needs 4 8 sizeRule _ λ n. number-needs 4 4 any _ λ t. number-needs 4 0 any (bodyOf n t) λ c. any-needs (bodyOf n t c)
-
-then-body : (n t c : ℕ) (g : Read Body) (X : List ℕ) → valueOf (continue (λ b. done (record { size = n; type = t; control = c; body = b })) X g) ≡ withBody n t c (valueOf g)
-unfolding continue done after
-then-body n t c (value b k) X = refl
-then-body n t c (fault p) X = refl
 
 module _ (s : List ℕ) (start : ℕ) where
   abbrev judged : ElementAnswer
@@ -141,12 +180,12 @@ module _ (s : List ℕ) (start : ℕ) where
   element-short h = unread (element-needs s h)
 
   module _ (h : 12 ≤ length s) (n : ℕ) (en : n ≡ numberAt s 0 4) where
-    n-is : Number.number 4 s ≡ n
-    n-is = at-offset s 0 4 tt tt en (omega arith)
+    from-size : Upto Layout.element s 0 (number 4 sizeRule >>= λ n. number 4 any >>= λ t. number 4 any >>= bodyOf n t)
+    unfolding Layout.element
+    from-size = upto-start Layout.element s
 
     wrong-size : sizeRule (length s - 4) n ≡ false → Refused ≡ judged
-    unfolding Decode.element
-    wrong-size o = unread (number-wrong 4 sizeRule _ s (rw n-is o))
+    wrong-size o = unread (ap valueOf (number-wrong Layout.element s 0 4 sizeRule _ from-size tt tt en (omega arith) o))
 
     pub element-small : n < 12 → Refused ≡ judged
     element-small g = wrong-size (rw (lt-leb 12 n g))
@@ -161,44 +200,24 @@ module _ (s : List ℕ) (start : ℕ) where
       b-length : length b ≡ n - 12
       b-length = length-take-le (n - 12) (drop 12 s) (rw length-drop (omega arith))
 
-      to-body : valueOf (Decode.element s) ≡ withBody n t c (valueOf (exactly (length b) (Decode.body t b)))
-      unfolding Decode.element _>>=_ inside
+      to-body : valueOf (Decode.element s) ≡ Option·map (withBody n t c) (valueOf (filling (Layout.body t) b))
       to-body =
-          let d : drop 4 (drop 4 s) ≡ drop 8 s = drop-drop 4 4 s in
-          let d′ : drop 4 (drop 8 s) ≡ drop 12 s = drop-drop 4 8 s in
-          let o : sizeRule (length s - 4) (Number.number 4 s) ≡ true = rw (n-is, le-leb 12 n l) (le-leb n (4 + (length s - 4)) (omega arith)) in
-          ap valueOf (number-then 4 sizeRule _ s (omega arith) o) ∙ value-after 4 _
-          ∙ rw (
-            n-is,
-            number-then 4 any _ (drop 4 s) (rw length-drop (omega arith)) refl,
-            at-offset s 4 4 tt tt et (omega arith),
-            value-after,
-            d,
-            number-then 4 any (bodyOf n t) (drop 8 s) (rw length-drop (omega arith)) refl,
-            at-offset s 8 4 tt tt ec (omega arith),
-            value-after,
-            d′,
-          )
-          (then-body n t c (inside (n - 12) (Decode.body t) (drop 12 s)) (drop 12 s) ∙ rw b-length)
+          let o : sizeRule (length s - 4) n ≡ true = rw (le-leb 12 n l) (le-leb n (4 + (length s - 4)) (omega arith)) in
+          let u₄ = number-holds Layout.element s 0 4 sizeRule _ from-size tt tt en (omega arith) o in
+          let u₈ = number-holds Layout.element s 4 4 any _ u₄ tt tt et (omega arith) refl in
+          let u₁₂ = number-holds Layout.element s 8 4 any _ u₈ tt tt ec (omega arith) refl in
+          last-value Layout.element s 12 (inside (n - 12) (Layout.body t)) (withBody n t c) u₁₂ ∙ ap (Option·map (withBody n t c)) (inside-value (n - 12) (Layout.body t) (drop 12 s) b-length)
 
-      pub element-launch : (r : ElementAnswer) → t ≡ 0x10 → r ≡ elementShown start (withBody n 0x10 c (valueOf (exactly (length b) (Decode.launch b)))) → r ≡ judged
-      unfolding Decode.body
+      pub element-launch : (r : ElementAnswer) → t ≡ 0x10 → r ≡ elementShown start (Option·map (withBody n 0x10 c) (valueOf (filling Layout.launch b))) → r ≡ judged
+      unfolding Layout.body
       element-launch r e q = rw (to-body, e) q
 
-      other-body : (t ≡ 0x10 → ⊥) → valueOf (exactly (length b) (Decode.body t b)) ≡ some (Grammar.other b)
-      unfolding Decode.body Decode.other rest _>>=_ continue done after exactly
-      other-body ne = rw (ne-eqb t 0x10 ne, eq-eqb (length b + 0) (length b) (omega arith))
+      other-body : (t ≡ 0x10 → ⊥) → valueOf (filling (Layout.body t) b) ≡ some (Grammar.other b)
+      unfolding Layout.body Layout.other
+      other-body ne = rw (ne-eqb t 0x10 ne, filling-value Layout.other b (Grammar.other b) (then-stands _ rest b _ b [] [] (rest-complete b) (done-complete _ [])))
 
       pub element-custom : (t ≡ 0x10 → ⊥) → t ≡ 3 → Custom start n c ≡ judged
       element-custom ne e = rw (to-body, other-body ne, eq-eqb t 3 e)
 
       pub element-unjudged : (t ≡ 0x10 → ⊥) → (t ≡ 3 → ⊥) → Unjudged start n t c ≡ judged
       element-unjudged ne ne′ = rw (to-body, other-body ne, ne-eqb t 3 ne′)
-
--- the element at an offset
-module _ (s : List ℕ) (at : ℕ) where
-  pub at-past : length s < at → Refused ≡ elementShown at (valueOf (Decode.element (drop at s)))
-  at-past h = element-short (drop at s) at (rw length-drop (omega arith))
-
-  pub at-front : (r : ElementAnswer) → r ≡ elementShown at (valueOf (Decode.element (take (length s - at) (drop at s)))) → r ≡ elementShown at (valueOf (Decode.element (drop at s)))
-  at-front r e = rw from-offset at e

@@ -1,23 +1,20 @@
 -- The laws of the crate; other crates cite those that are public.
 -- The decoder and the grammar.
-mod Parsers
-mod Decoding
 -- What each function answers, by the tests that it makes.
-mod Offsets
-mod Steps
+mod Heads
 mod ElementTests
 mod ListTests
 mod FileTests
 mod PartTests
 -- Loops over elements and lists.
-mod Runs
 mod Cuts
 pub mod Standing
-pub mod Turns
+pub mod Loops
+mod Filling
 -- Parts by number, and demand 3.
-mod Places
+pub mod Places
 mod ByNumber
 mod Seen
+mod Offsets
 pub mod Demand3
 pub mod Walk
-pub mod Lines

@@ -6,7 +6,7 @@ use mathlib.Core.List.{List, []}
 use lib.ListN.{length, take, drop, drop-of-length-le}
 use borrow.Author.Tests.{le-leb, lt-leb}
 use Rattle.policy.specs.Parts.{partAt}
-use Rattle.policy.proofs.Offsets.{from-offset}
+use Rattle.policy.proofs.Heads.{from-offset}
 
 module _ (s : List ℕ) (start len : ℕ) where
   outside : length s < start + len → [] ≡ partAt s start len

@@ -11,11 +11,12 @@ use lib.Seq.{take-at, drop-at, drop-drop}
 use borrow.Author.Tests.{le-leb}
 use Rattle.field.specs.Number.{Bytes, bytes}
 use Rattle.field.proofs.Laws.{length-bytes}
-use Rattle.policy.specs.Grammar.{All, Element, elementBytes, ValidElement, signingBytes, PolicyList, listBytes, ValidList, Reading, Makes, markCharacters}
-use Rattle.policy.specs.Parser.{Read, value, fault, valueOf}
-use Rattle.policy.specs.Decode.{reading, accepted}
-use Rattle.policy.specs.Answers.{sized, place}
-use Rattle.policy.proofs.Decoding.{reading-sound, reading-complete}
+use Rattle.policy_grammar.specs.Grammar.{All, Element, elementBytes, ValidElement, signingBytes, PolicyList, listBytes, ValidList, Reading, Makes, markCharacters}
+use Rattle.policy_grammar.specs.Parser.{Read, value, fault, valueOf}
+use Rattle.policy_grammar.specs.Decode.{reading, accepted, sized}
+use Rattle.policy.specs.Answers.{place}
+use Rattle.policy.specs.Demand3.{StandsAt}
+use Rattle.policy_grammar.proofs.Decoding.{reading-sound, reading-complete}
 use Rattle.policy.proofs.Cuts.{cut, Cut, all-drop, flat-drop}
 
 -- an accepted string is made from the reading with which it is accepted
@@ -50,17 +51,12 @@ lists-stand r s m =
     rw (← m .made, v .marked, v .mark-zeros, v .reserved-zeros)
 
 -- the value number k, with what the values after it make
-pub record At {A : Type 0} (f : A → List ℕ) (P : A → Type 0) (s : List ℕ) (at : ℕ) (a : A) : Type 0 where
-  pub obeys : P a
-  pub rest : List ℕ
-  pub stands : drop at s ≡ f a ++ rest
-
 pub numbered-at : {A : Type 0} (f : A → List ℕ) (P : A → Type 0) (s : List ℕ) (start : ℕ) (xs : List A) (t : List ℕ) → All P xs → drop start s ≡ flatMap f xs ++ t
-    → (k : ℕ) (a : A) → getElem? xs k ≡ some a → At f P s (start + length (flatMap f (take k xs))) a
+    → (k : ℕ) (a : A) → getElem? xs k ≡ some a → StandsAt f P s (start + length (flatMap f (take k xs))) a
 unfolding flatMap
 numbered-at {A = A} f P s start xs t all e k a q = ⊎-elim (λ c. (let i = c .1 k (omega arith) in let z : _≡_ {A = ℕ} 0 1 = cc in absurd (omega arith))) there (cut f xs k)
   where
-    there : Cut f xs k → At f P s (start + length (flatMap f (take k xs))) a
+    there : Cut f xs k → StandsAt f P s (start + length (flatMap f (take k xs))) a
     there c =
         let i : c .first ≡ a = (let o = c .is in cc) in
         let d : drop k xs ≡ a ∷ c .others = c .from ∙ ap (λ (x : A). x ∷ c .others) i in
@@ -73,7 +69,7 @@ numbered-at {A = A} f P s start xs t all e k a q = ⊎-elim (λ c. (let i = c .1
         }
 
 -- in a list
-module _ (s : List ℕ) (at : ℕ) (l : PolicyList) (here : At listBytes ValidList s at l) where
+module _ (s : List ℕ) (at : ℕ) (l : PolicyList) (here : StandsAt listBytes ValidList s at l) where
   abbrev J : List ℕ
   J = flatMap elementBytes (l .elements)
 
@@ -82,9 +78,6 @@ module _ (s : List ℕ) (at : ℕ) (l : PolicyList) (here : At listBytes ValidLi
 
   abbrev n : ℕ
   n = l .elementsSize
-
-  pub list-part : take (length (listBytes l)) (drop at s) ≡ listBytes l
-  list-part = rw (here .stands) (take-at (listBytes l) (here .rest) (length (listBytes l)) refl)
 
   pub elements-at : drop (at + 8) s ≡ J ++ (S ++ here .rest)
   unfolding bytes
@@ -101,9 +94,9 @@ module _ (s : List ℕ) (at : ℕ) (l : PolicyList) (here : At listBytes ValidLi
       let i : at + (8 + n) ≡ at + 8 + n = omega arith in
       rw (i, ← drop-drop n (at + 8) s, elements-at) (drop-at J (S ++ here .rest) n (sym (here .obeys .filled)))
 
-  pub element-at : (j : ℕ) (e : Element) → getElem? (l .elements) j ≡ some e → At elementBytes ValidElement s (at + 8 + length (flatMap elementBytes (take j (l .elements)))) e
+  pub element-at : (j : ℕ) (e : Element) → getElem? (l .elements) j ≡ some e → StandsAt elementBytes ValidElement s (at + 8 + length (flatMap elementBytes (take j (l .elements)))) e
   element-at j e q = numbered-at elementBytes ValidElement s (at + 8) (l .elements) (S ++ here .rest) (here .obeys .elements-valid) elements-at j e q
 
 -- the lists of a string by number
-pub list-at : (r : Reading) (s : List ℕ) → Makes r s → (i : ℕ) (l : PolicyList) → getElem? (r .lists) i ≡ some l → At listBytes ValidList s (place listBytes 36 (r .lists) i) l
+pub list-at : (r : Reading) (s : List ℕ) → Makes r s → (i : ℕ) (l : PolicyList) → getElem? (r .lists) i ≡ some l → StandsAt listBytes ValidList s (place listBytes 36 (r .lists) i) l
 list-at r s m i l q = numbered-at listBytes ValidList s 36 (r .lists) [] (m .valid .lists-valid) (lists-stand r s m ∙ sym (append-nil (flatMap listBytes (r .lists)))) i l q

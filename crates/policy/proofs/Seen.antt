@@ -11,16 +11,16 @@ use lib.Dec.{eqb}
 use borrow.Author.Tests.{le-leb, eqb-true}
 use Rattle.field.specs.Number.{bytes}
 use Rattle.field.proofs.Laws.{length-bytes}
-use Rattle.policy.specs.Grammar.{All, Launch, Body, bodyBytes, ValidBody, Element, elementBytes, ValidElement, digestLength, Signature, Signing, signatureBytes, ValidSigning, PolicyList, listBytes, ValidList}
-use Rattle.policy.specs.Grammar as Grammar
-use Rattle.policy.specs.Parts.{partAt}
+use Rattle.policy_grammar.specs.Grammar.{All, Launch, Body, bodyBytes, ValidBody, Element, elementBytes, ValidElement, digestLength, Signature, Signing, signatureBytes, ValidSigning, PolicyList, listBytes, ValidList}
+use Rattle.policy_grammar.specs.Grammar as Grammar
+use Rattle.policy.specs.Parts.{partAt, bodyOf}
 use Rattle.policy.specs.Answers.{signingShown, listShown, listSize, bodyShown, elementShown, keyOf}
 use Rattle.policy.specs.Answers as Answers
-use Rattle.policy.specs.Demand3.{seenList, listPart, seenPart, signatureIn, signatureOf, pieces, seenElement}
+use Rattle.policy.specs.Demand3.{StandsAt, seenList, listPart, seenPart, signatureIn, signatureOf, pieces, seenElement, seenBody}
 use Rattle.policy.specs.declared.ElementAnswer.the-variants as elements
-use Rattle.policy.proofs.Decoding.{itself, Long, element-length}
+use Rattle.policy_grammar.proofs.Decoding.{itself, Long, element-length}
 use Rattle.policy.proofs.Standing.{list-length}
-use Rattle.policy.proofs.Places.{At, elements-at, elements-fit, signing-at}
+use Rattle.policy.proofs.Places.{elements-at, elements-fit, signing-at}
 
 -- the bytes that stand at an offset
 part-is : (s : List ℕ) (at n : ℕ) (x t : List ℕ) → at ≤ length s → drop at s ≡ x ++ t → length x ≡ n → partAt s at n ≡ x
@@ -33,7 +33,7 @@ within : (s : List ℕ) (at : ℕ) (x t : List ℕ) → drop at s ≡ x ++ t →
 within s at x t e h = omega (arith, length-drop at s, ap length e, length-append x t)
 
 -- a list
-module _ (s : List ℕ) (at : ℕ) (l : PolicyList) (here : At listBytes ValidList s at l) where
+module _ (s : List ℕ) (at : ℕ) (l : PolicyList) (here : StandsAt listBytes ValidList s at l) where
   abbrev n : ℕ
   n = l .elementsSize
 
@@ -117,7 +117,7 @@ pieces-are k (d ∷ ds) zero e h = absurd (omega arith)
 pieces-are k (d ∷ ds) (suc n) e h =
     rw (take-at d (flatMap itself ds) k (h .0), drop-at d (flatMap itself ds) k (h .0)) (ap (λ (x : List (List ℕ)). d ∷ x) (pieces-are k ds n (omega arith) (h .1)))
 
-module _ (s : List ℕ) (at : ℕ) (e : Element) (here : At elementBytes ValidElement s at e) where
+module _ (s : List ℕ) (at : ℕ) (e : Element) (here : StandsAt elementBytes ValidElement s at e) where
   element-is : partAt s at (e .size) ≡ elementBytes e
   element-is =
       part-is s at (e .size) (elementBytes e) (here .rest)
@@ -127,12 +127,14 @@ module _ (s : List ℕ) (at : ℕ) (e : Element) (here : At elementBytes ValidEl
   unfolding bytes
   body-is = rw element-is
 
-  digests-are : (b : Launch) → e .body ≡ Grammar.launch b → pieces (b .count) (digestLength (b .hashAlg)) (drop 18 (partAt s at (e .size))) ≡ b .digests
+  digests-are : (b : Launch) → e .body ≡ Grammar.launch b
+      → pieces (b .digests .count) (digestLength (b .digests .hashAlg)) (drop 18 (partAt s at (e .size))) ≡ b .digests .digests
   unfolding bytes
   digests-are b i =
       let v : ValidBody (e .type) (Grammar.launch b) = rw i at (here .obeys .body-valid) in
-      let q : drop 18 (partAt s at (e .size)) ≡ flatMap itself (b .digests) = sym (drop-drop 6 12 (partAt s at (e .size))) ∙ ap (drop 6) (body-is ∙ ap bodyBytes i) in
-      rw q (pieces-are (digestLength (b .hashAlg)) (b .digests) (b .count) (v .1 .counted) (v .1 .digest-lengths))
+      let q : drop 18 (partAt s at (e .size)) ≡ flatMap itself (b .digests .digests) = sym (drop-drop 6 12 (partAt s at (e .size))) ∙ ap (drop 6) (body-is ∙ ap bodyBytes i) in
+      let w = v .1 .digests-valid in
+      rw q (pieces-are (digestLength (b .digests .hashAlg)) (b .digests .digests) (b .digests .count) (w .counted) (w .digest-lengths))
 
   pub element-seen : seenElement s (elementShown at (some e)) ≡ some e
   element-seen = go (e .body) refl
@@ -151,9 +153,20 @@ module _ (s : List ℕ) (at : ℕ) (e : Element) (here : At elementBytes ValidEl
       go (Grammar.launch b) i =
           let v : ValidBody (e .type) (Grammar.launch b) = rw i at (here .obeys .body-valid) in
           let d = digests-are b i in
-          let w : Grammar.launch (record { sinitMinVersion = b .sinitMinVersion; reserved = b .reserved; hashAlg = b .hashAlg; count = b .count; digests = pieces (b .count) (digestLength (b .hashAlg)) (drop 18 (partAt s at (e .size))) }) ≡ e .body =
-          (λ k. Grammar.launch (record { sinitMinVersion = b .sinitMinVersion; reserved = b .reserved; hashAlg = b .hashAlg; count = b .count; digests = d k })) ∙ sym i in
+          let w : Grammar.launch (record { sinitMinVersion = b .sinitMinVersion; reserved = b .reserved; digests = record { hashAlg = b .digests .hashAlg; count = b .digests .count; digests = pieces (b .digests .count) (digestLength (b .digests .hashAlg)) (drop 18 (partAt s at (e .size))) } }) ≡ e .body =
+          (λ k. Grammar.launch (record { sinitMinVersion = b .sinitMinVersion; reserved = b .reserved; digests = record { hashAlg = b .digests .hashAlg; count = b .digests .count; digests = d k } })) ∙ sym i in
           let t = v .0 in
           ap (λ (x : Body). seenElement s (bodyShown at (e .size) (e .type) (e .control) x)) i
           ∙ λ k. some (record { size = e .size; type = sym t k; control = e .control; body = w k })
       go (Grammar.other b) i = ap (λ (x : Body). seenElement s (bodyShown at (e .size) (e .type) (e .control) x)) i ∙ on (eqb (e .type) 3) refl b i
+
+  pub body-seen : seenBody s (elementShown at (some e)) ≡ some (bodyBytes (e .body))
+  body-seen = rw element-seen (ap some (go (e .body)))
+    where
+      on : (x : Bool) → bodyOf s (cond x (elements.Custom at (e .size) (e .control)) (elements.Unjudged at (e .size) (e .type) (e .control))) ≡ bodyBytes (e .body)
+      on true = body-is
+      on false = body-is
+
+      go : (b : Body) → bodyOf s (bodyShown at (e .size) (e .type) (e .control) b) ≡ bodyBytes (e .body)
+      go (Grammar.launch b) = body-is
+      go (Grammar.other b) = on (eqb (e .type) 3)

@@ -12,18 +12,20 @@ use lib.Seq.{drop-drop, drop-append-seam}
 use lib.Dec.{eqb, lit<}
 use mir.Val.{Fits}
 use mir.Syntax.{w8}
+use Rattle.field.specs.Number.{Bytes}
 use Rattle.field.proofs.Laws.{bytes-drop, length-bytes}
-use Rattle.policy.specs.Grammar.{All, Body, Element, elementBytes, ValidElement, Signing, ValidSigning, signingBytes, PolicyList, listBytes, ValidList}
-use Rattle.policy.specs.Grammar as Grammar
-use Rattle.policy.specs.Parser.{Read, value, fault, valueOf, Parser}
-use Rattle.policy.specs.Decode as Decode
+use Rattle.policy_grammar.specs.Grammar.{All, Body, Element, elementBytes, ValidElement, Signing, ValidSigning, signingBytes, PolicyList, listBytes, ValidList}
+use Rattle.policy_grammar.specs.Grammar as Grammar
+use Rattle.policy_grammar.specs.Parser.{Read, value, fault, valueOf, Parser}
+use Rattle.policy_grammar.specs.Layout as Layout
+use Rattle.policy_grammar.specs.Decode as Decode
 use Rattle.policy.specs.Answers.{bodyShown, elementShown, elementSize, signingShown, listShown, listSize}
 use Rattle.policy.specs.declared.ElementAnswer.{ElementAnswer}
 use Rattle.policy.specs.declared.ElementAnswer.the-variants.{Custom, Unjudged, Refused}
 use Rattle.policy.specs.declared.ListAnswer.{ListAnswer}
 use Rattle.policy.specs.declared.ListAnswer.the-variants.{Absent}
-use Rattle.policy.proofs.Parsers.{Parses, Sound, Made, Complete}
-use Rattle.policy.proofs.Decoding.{element-sound, element-complete, element-length, list-sound, list-complete}
+use Rattle.policy_grammar.proofs.Soundness.{reads-sound, reads-complete}
+use Rattle.policy_grammar.proofs.Decoding.{element-sound, element-complete, element-length, list-sound, list-complete}
 use Rattle.policy.proofs.ElementTests.{element-needs}
 use Rattle.policy.proofs.ListTests.{list-needs}
 
@@ -32,8 +34,8 @@ pub record Kind : Type 1 where
   pub make : Value → List ℕ
   pub Valid : Value → Type 0
   pub parser : Parser Value
-  pub sound : Sound parser (Made make Valid)
-  pub complete : Complete make Valid parser
+  pub sound : (s : List ℕ) (a : Value) (n : ℕ) → Bytes s → parser s ≡ value a n → Valid a × (length (make a) ≡ n) × (make a ++ drop n s ≡ s)
+  pub complete : (a : Value) (t : List ℕ) → Valid a → parser (make a ++ t) ≡ value a (length (make a))
   pub ends : valueOf (parser []) ≡ none
   -- the answer for a value, and its size
   pub Answer : Type 0
@@ -46,16 +48,10 @@ pub record Kind : Type 1 where
 
 -- where values stand
 module _ (κ : Kind) (s : List ℕ) (at : ℕ) where
-  -- the number of bytes that is read is the number of those made
-  parses-length : (x : List ℕ) (a : κ .Value) (t : List ℕ) → Parses (κ .parser) (x ++ t) a t → κ .parser (x ++ t) ≡ value a (length x)
-  parses-length x a t p =
-      let e : p .size ≡ length x = omega (arith, p .fits, ap length (p .left), length-drop (p .size) (x ++ t), length-append x t) in
-      p .reads ∙ ap (value a) e
-
   module _ (a : κ .Value) (xs : List (κ .Value)) (all : All (κ .Valid) (a ∷ xs)) (e : drop at s ≡ flatMap (κ .make) (a ∷ xs)) where
     pub here : κ .parser (drop at s) ≡ value a (length (κ .make a))
     unfolding flatMap
-    here = rw e (parses-length (κ .make a) a (flatMap (κ .make) xs) (κ .complete a (flatMap (κ .make) xs) (all .0)))
+    here = rw e (κ .complete a (flatMap (κ .make) xs) (all .0))
 
     pub next : drop (at + length (κ .make a)) s ≡ flatMap (κ .make) xs
     unfolding flatMap
@@ -79,11 +75,10 @@ module _ (κ : Kind) (s : List ℕ) (at : ℕ) (b : (i : ℕ) → Fits w8 (getD 
 
   there : (a : κ .Value) (n : ℕ) → κ .parser (drop at s) ≡ value a n → Stands
   there a n q =
-      let (y, (v, m), l, d) = κ .sound (drop at s) a n (bytes-drop at s (λ i. b i .fits)) q in
+      let (v, l, d) = κ .sound (drop at s) a n (bytes-drop at s (λ i. b i .fits)) q in
       let w = κ .size-is at a v in
-      let i : z ≡ n = z-is ∙ rw q (w .0 ∙ ap length m ∙ l) in
-      let u : length (κ .make a) ≡ n = ap length m ∙ l in
-      (a, rw i q, omega (arith, w .1), omega (arith, w .1, length-drop at s, length-append y (drop n (drop at s)), ap length d, l))
+      let i : z ≡ n = z-is ∙ rw q (w .0 ∙ l) in
+      (a, rw i q, omega (arith, w .1), omega (arith, w .1, length-drop at s, length-append (κ .make a) (drop n (drop at s)), ap length d))
 
   pub stands : (z ≡ 0 → ⊥) → Stands
   stands h = go (κ .parser (drop at s)) refl
@@ -118,8 +113,8 @@ element =
       make = elementBytes;
       Valid = ValidElement;
       parser = Decode.element;
-      sound = element-sound;
-      complete = element-complete;
+      sound = reads-sound elementBytes ValidElement Layout.element element-sound;
+      complete = reads-complete elementBytes ValidElement Layout.element element-complete;
       ends = element-needs [] (lit< tt);
       Answer = ElementAnswer;
       shown = elementShown;
@@ -147,8 +142,8 @@ list =
       make = listBytes;
       Valid = ValidList;
       parser = Decode.list;
-      sound = list-sound;
-      complete = list-complete;
+      sound = reads-sound listBytes ValidList Layout.list list-sound;
+      complete = reads-complete listBytes ValidList Layout.list list-complete;
       ends = list-needs [] (lit< tt);
       Answer = ListAnswer;
       shown = listShown;

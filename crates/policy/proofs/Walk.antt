@@ -3,21 +3,21 @@
 -- Where it starts, what stands at an offset, the next offset, and the end; each for elements and for lists, the kinds `element` and `list`.
 use Prim.Native.Nat.{ℕ, _+_, _≤_, _<_}
 use native.Mathlib.Omega.{arith}
-use mathlib.Core.Path.{_≡_, ap, sym, _∙_}
+use mathlib.Core.Path.{_≡_, refl, ap, sym, _∙_}
 use mathlib.Core.Bool.{and-eq-true-iff}
 use mathlib.Core.List.{List, [], _∷_, flatMap}
 use mathlib.Core.Option.{some}
-use lib.ListN.{length, take, drop}
+use lib.ListN.{length, take, drop, length-drop}
 use borrow.Author.Tests.{leb-true}
 use Rattle.field.specs.Number.{Bytes}
-use Rattle.policy.specs.Grammar.{All, Element, elementBytes, ValidElement, PolicyList, listBytes, ValidList, Reading}
-use Rattle.policy.specs.Parser.{valueOf}
-use Rattle.policy.specs.Decode.{accepted}
+use Rattle.policy_grammar.specs.Grammar.{All, Element, elementBytes, ValidElement, PolicyList, listBytes, ValidList, Reading}
+use Rattle.policy_grammar.specs.Parser.{valueOf}
+use Rattle.policy_grammar.specs.Decode.{accepted}
 use Rattle.policy.specs.Answers.{elementShown, listShown}
-use Rattle.policy.specs.Demand3.{seenList, listPart, seenElement}
+use Rattle.policy.specs.Demand3.{StandsAt, seenList, listPart, seenElement}
 use Rattle.policy.proofs.Standing.{Kind, here, next, inside, at-end}
-use Rattle.policy.proofs.Places.{At, accepted-sound, lists-stand, elements-part, elements-fit}
-use Rattle.policy.proofs.Offsets.{drop-take}
+use Rattle.policy.proofs.Places.{accepted-sound, lists-stand, elements-part, elements-fit}
+use Rattle.policy.proofs.Heads.{drop-take}
 use Rattle.policy.proofs.Seen as Seen
 
 -- the lists of an accepted string stand from offset 36 on
@@ -54,7 +54,7 @@ walk-end κ s at e = ap (κ .shown at) (at-end κ s at e) ∙ sym (κ .none-show
 
 -- what is seen of the answer for the first list: all its bytes and every field; and its elements stand in the string up to their end
 module _ (s : List ℕ) (at : ℕ) (l : PolicyList) (ls : List PolicyList) (v : All ValidList (l ∷ ls)) (e : drop at s ≡ flatMap listBytes (l ∷ ls)) where
-  first : At listBytes ValidList s at l
+  first : StandsAt listBytes ValidList s at l
   unfolding flatMap
   first = record { obeys = v .0; rest = flatMap listBytes ls; stands = e }
 
@@ -72,3 +72,64 @@ pub element-seen : (s : List ℕ) (at : ℕ) (x : Element) (xs : List Element) �
     → seenElement s (elementShown at (some x)) ≡ some x
 unfolding flatMap
 element-seen s at x xs v e = Seen.element-seen s at x (record { obeys = v .0; rest = flatMap elementBytes xs; stands = e })
+
+-- A LOOP: what is left to walk, of which something is kept; one step; and what holds at the end
+
+pub record Left (κ : Kind) (s : List ℕ) (at : ℕ) (Kept : List (κ .Value) → Type 0) : Type 0 where
+  pub rest : List (κ .Value)
+  pub valid : All (κ .Valid) rest
+  pub stand : drop at s ≡ flatMap (κ .make) rest
+  pub kept : Kept rest
+
+-- the first of what is left, the answer for it, and the next offset
+pub record Turn (κ : Kind) (s : List ℕ) (at : ℕ) (Kept : List (κ .Value) → Type 0) (e : κ .Answer) : Type 0 where
+  pub first : κ .Value
+  pub others : List (κ .Value)
+  pub valid : All (κ .Valid) (first ∷ others)
+  pub stand : drop at s ≡ flatMap (κ .make) (first ∷ others)
+  pub kept : Kept (first ∷ others)
+  pub shown : e ≡ κ .shown at (some first)
+  pub positive : 0 < κ .size e
+  pub within : at + κ .size e ≤ length s
+  pub next : drop (at + κ .size e) s ≡ flatMap (κ .make) others
+
+module _ (κ : Kind) (s : List ℕ) (at : ℕ) (Kept : List (κ .Value) → Type 0) (left : Left κ s at Kept) where
+  pub turn : (e : κ .Answer) → at < length s → e ≡ κ .shown at (valueOf (κ .parser (drop at s))) → Turn κ s at Kept e
+  unfolding flatMap
+  turn e l q = go (left .rest) refl
+    where
+      go : (xs : List (κ .Value)) → left .rest ≡ xs → Turn κ s at Kept e
+      go [] r =
+          let d : drop at s ≡ [] = left .stand ∙ ap (flatMap (κ .make)) r in
+          absurd (omega (arith, length-drop at s, ap length d))
+      go (a ∷ xs) r =
+          let v : All (κ .Valid) (a ∷ xs) = rw r at (left .valid) in
+          let d : drop at s ≡ flatMap (κ .make) (a ∷ xs) = left .stand ∙ ap (flatMap (κ .make)) r in
+          let is : e ≡ κ .shown at (some a) = q ∙ walk-here κ s at a xs v d in
+          let w = walk-within κ s at a xs v d in
+          record {
+            first = a;
+            others = xs;
+            valid = v;
+            stand = d;
+            kept = rw r at (left .kept);
+            shown = is;
+            positive = rw is (w .0);
+            within = rw is (w .1);
+            next = rw is (walk-next κ s at a xs v d);
+          }
+
+  pub ended : length s ≤ at → Kept []
+  ended l = go (left .rest) refl
+    where
+      go : (xs : List (κ .Value)) → left .rest ≡ xs → Kept []
+      go [] r = rw r at (left .kept)
+      go (a ∷ xs) r =
+          let v : All (κ .Valid) (a ∷ xs) = rw r at (left .valid) in
+          let d : drop at s ≡ flatMap (κ .make) (a ∷ xs) = left .stand ∙ ap (flatMap (κ .make)) r in
+          absurd (omega (arith, walk-within κ s at a xs v d))
+
+-- what is left after a step
+pub onward : (κ : Kind) (s : List ℕ) (at : ℕ) (Kept Next : List (κ .Value) → Type 0) (e : κ .Answer) (t : Turn κ s at Kept e) (z : ℕ)
+    → z ≡ κ .size e → Next (t .others) → Left κ s (at + z) Next
+onward κ s at Kept Next e t z q h = record { rest = t .others; valid = t .valid .1; stand = rw q (t .next); kept = h }

@@ -1,10 +1,10 @@
 -- What the reader answers, given what it reads: each part with its numbers, and the offsets at which it stands in the file.
 use Prim.Native.Nat.{ℕ, _+_}
-use mathlib.Core.Bool.{Bool, cond, _&&_}
+use mathlib.Core.Bool.{cond}
 use mathlib.Core.List.{List, [], flatMap}
 use mathlib.Core.Option.{Option, some, none}
 use lib.ListN.{length, take, getElem?}
-use lib.Dec.{leb, eqb}
+use lib.Dec.{eqb}
 use Rattle.policy.specs.declared.FileAnswer.{FileAnswer}
 use Rattle.policy.specs.declared.FileAnswer.the-variants.{Accepted, WrongSize, NotOfGrammar}
 use Rattle.policy.specs.declared.ListAnswer.{ListAnswer}
@@ -13,12 +13,9 @@ use Rattle.policy.specs.declared.PartAnswer.{PartAnswer}
 use Rattle.policy.specs.declared.PartAnswer.the-variants as parts
 use Rattle.policy.specs.declared.ElementAnswer.{ElementAnswer}
 use Rattle.policy.specs.declared.ElementAnswer.the-variants.{Launch, Custom, Unjudged, Refused}
-use Rattle.policy.specs.Grammar.{Body, Element, elementBytes, Signing, PolicyList, listBytes, Reading}
-use Rattle.policy.specs.Grammar as Grammar
-
--- "36 to 65,536 bytes"
-abbrev pub sized : List ℕ → Bool
-sized s = leb 36 (length s) && leb (length s) 65536
+use Rattle.policy_grammar.specs.Grammar.{Body, Element, elementBytes, Signing, PolicyList, listBytes, Reading}
+use Rattle.policy_grammar.specs.Grammar as Grammar
+pub use Rattle.policy_grammar.specs.Decode.{sized}
 
 -- a string: 26 where its size is wrong, 27 where it is not of the grammar, and else 0 with the list count
 abbrev pub fileShown : List ℕ → Option Reading → FileAnswer
@@ -43,7 +40,7 @@ listSize lists.Absent = 0
 -- an element that starts at an offset: of type 0x10 a launch element, of type 3 custom, of another type unjudged
 abbrev pub bodyShown : ℕ → ℕ → ℕ → ℕ → Body → ElementAnswer
 bodyShown start size type control (Grammar.launch b) =
-    Launch start size control (b .sinitMinVersion) (b .reserved) (b .hashAlg) (b .count)
+    Launch start size control (b .sinitMinVersion) (b .reserved) (b .digests .hashAlg) (b .digests .count)
 bodyShown start size type control (Grammar.other b) = cond (eqb type 3) (Custom start size control) (Unjudged start size type control)
 
 abbrev pub elementShown : ℕ → Option Element → ElementAnswer

@@ -1,11 +1,11 @@
 -- Demand 3, as one statement about a string and every number asked: `Demand3`, which proofs/Demand3.antt proves as `demand3`.
 -- Each answer is looked at through the string, by cases; what is then seen is that part of the one reading from which the grammar makes the string,
--- and nothing exactly where that reading has no such part, as for every string that is refused.
+-- and nothing exactly where that reading has no such part, as for every string that is refused. At the end, the same of a list and of an element at an offset.
 use Prim.Native.Nat.{ℕ, zero, suc, _≤_, _<_}
 use mathlib.Core.Path.{_≡_}
 use mathlib.Core.Logic.{_⊎_}
 use mathlib.Core.Bool.{cond}
-use mathlib.Core.List.{List, [], _∷_, flatMap}
+use mathlib.Core.List.{List, [], _∷_, _++_, flatMap}
 use mathlib.Core.Option.{Option, some, none, Option·map}
 use lib.ListN.{length, take, drop, getElem?}
 use Rattle.field.specs.Number.{Bytes}
@@ -18,11 +18,11 @@ use Rattle.policy.specs.declared.PartAnswer.{PartAnswer}
 use Rattle.policy.specs.declared.PartAnswer.the-variants as parts
 use Rattle.policy.specs.declared.ElementAnswer.{ElementAnswer}
 use Rattle.policy.specs.declared.ElementAnswer.the-variants.{Launch, Custom, Unjudged, Refused}
-use Rattle.policy.specs.Grammar.{Element, elementBytes, digestLength, Signature, Signing, PolicyList, listBytes, Reading, Makes}
-use Rattle.policy.specs.Grammar as Grammar
-use Rattle.policy.specs.Answers.{sized, fileShown, listsIn, elementsIn, listAnswer, keyAnswer, signatureAnswer, elementAnswer}
-use Rattle.policy.specs.Decode.{accepted}
-use Rattle.policy.specs.Parts.{partAt}
+use Rattle.policy_grammar.specs.Grammar.{bodyBytes, Element, elementBytes, ValidElement, digestLength, Signature, Signing, PolicyList, listBytes, ValidList, Reading, Makes}
+use Rattle.policy_grammar.specs.Grammar as Grammar
+use Rattle.policy.specs.Answers.{fileShown, listShown, elementShown, listsIn, elementsIn, listAnswer, keyAnswer, signatureAnswer, elementAnswer}
+use Rattle.policy_grammar.specs.Decode.{accepted, sized}
+use Rattle.policy.specs.Parts.{partAt, bodyOf}
 
 -- WHAT AN ANSWER SHOWS
 
@@ -77,13 +77,22 @@ seenElement s (Launch start size control m v a n) =
       size = size;
       type = 0x10;
       control = control;
-      body = Grammar.launch (record { sinitMinVersion = m; reserved = v; hashAlg = a; count = n; digests = pieces n (digestLength a) (drop 18 (partAt s start size)) });
+      body =
+          Grammar.launch (record {
+            sinitMinVersion = m;
+            reserved = v;
+            digests = record { hashAlg = a; count = n; digests = pieces n (digestLength a) (drop 18 (partAt s start size)) };
+          });
     })
 seenElement s (Custom start size control) =
     some (record { size = size; type = 3; control = control; body = Grammar.other (drop 12 (partAt s start size)) })
 seenElement s (Unjudged start size type control) =
     some (record { size = size; type = type; control = control; body = Grammar.other (drop 12 (partAt s start size)) })
 seenElement s Refused = none
+
+-- the body of an element that is there: its bytes
+abbrev pub seenBody : List ℕ → ElementAnswer → Option (List ℕ)
+seenBody s e = Option·map (λ (x : Element). bodyOf s e) (seenElement s e)
 
 -- WHAT A READING HAS
 
@@ -110,15 +119,16 @@ signatureOf (some l) = signatureIn (l .signing)
 
 -- THE STATEMENT
 
--- the grammar makes the string from the one reading that is there, or from none
+-- the grammar makes the string from the reading that is there, or from none
 abbrev pub MadeFrom : List ℕ → Option Reading → Type 0
 MadeFrom s none = (r : Reading) → Makes r s → ⊥
-MadeFrom s (some r) = Makes r s × ((r′ : Reading) → Makes r′ s → r′ ≡ r)
+MadeFrom s (some r) = Makes r s
 
--- the reading that a string of up to 65,536 bytes has; a string outside 36 to 65,536 bytes is refused
-pub record Says (s : List ℕ) (o : Option Reading) : Type 0 where
+-- o is the reading with which the string is accepted, of 36 to 65,536 bytes; no string of whatever length has two readings
+pub record IsReadingOf (s : List ℕ) (o : Option Reading) : Type 0 where
   pub made : length s ≤ 65536 → MadeFrom s o
   pub outside : (length s < 36) ⊎ (65536 < length s) → o ≡ none
+  pub one : (r r′ : Reading) → Makes r s → Makes r′ s → r ≡ r′
 
 -- "26 for a string outside 36 to 65,536 bytes, else 27 or the reading"
 abbrev pub numberFor : List ℕ → Option Reading → ℕ
@@ -144,12 +154,40 @@ pub record Shows (s : List ℕ) (o : Option Reading) (i j : ℕ) (a : Answers) :
   pub key : seenPart s (a .key) ≡ Option·map (λ (g : Signature). g .key) (signatureOf (getElem? (listsIn o) i))
   pub signature : seenPart s (a .signature) ≡ Option·map (λ (g : Signature). g .signature) (signatureOf (getElem? (listsIn o) i))
   pub element : seenElement s (a .element) ≡ getElem? (elementsIn (getElem? (listsIn o) i)) j
+  pub body : seenBody s (a .element) ≡ Option·map (λ (e : Element). bodyBytes (e .body)) (getElem? (elementsIn (getElem? (listsIn o) i)) j)
   pub places : a ≡ answersOf s o i j
 
 -- the contracts of `read`, `list`, `key`, `signature` and `element` say that they answer `answersOf s (accepted s) i j`
 abbrev pub Demand3 : Type 0
-Demand3 = (s : List ℕ) → Bytes s → (o : Option Reading) × Says s o × ((i j : ℕ) → Shows s o i j (answersOf s (accepted s) i j))
+Demand3 = (s : List ℕ) → Bytes s → (o : Option Reading) × IsReadingOf s o × ((i j : ℕ) → Shows s o i j (answersOf s (accepted s) i j))
 
 -- the same of the answers of one call
 abbrev pub Answered : List ℕ → ℕ → ℕ → Answers → Type 0
-Answered s i j a = (o : Option Reading) × Says s o × Shows s o i j a
+Answered s i j a = (o : Option Reading) × IsReadingOf s o × Shows s o i j a
+
+-- AT AN OFFSET
+
+-- a value that obeys the rules stands at an offset: its bytes are the first of what is left there
+pub record StandsAt {A : Type 0} (make : A → List ℕ) (Valid : A → Type 0) (s : List ℕ) (at : ℕ) (a : A) : Type 0 where
+  pub obeys : Valid a
+  pub rest : List ℕ
+  pub stands : drop at s ≡ make a ++ rest
+
+-- it is the only one, or there is none
+abbrev pub OnlyAt : {A : Type 0} → (A → List ℕ) → (A → Type 0) → List ℕ → ℕ → Option A → Type 0
+OnlyAt {A} make Valid s at none = (a : A) → StandsAt make Valid s at a → ⊥
+OnlyAt {A} make Valid s at (some a) = StandsAt make Valid s at a × ((b : A) → StandsAt make Valid s at b → b ≡ a)
+
+-- the answer is for the list that stands at an offset of the string, if one does
+pub record ListAtExactly (s : List ℕ) (at : ℕ) (answer : ListAnswer) : Type 0 where
+  pub list : Option PolicyList
+  pub only : OnlyAt listBytes ValidList s at list
+  pub places : answer ≡ listShown at list
+  pub seen : seenList s answer ≡ Option·map listPart list
+
+-- the answer is for the element that stands at an offset of the string, if one does
+pub record ElementAtExactly (s : List ℕ) (at : ℕ) (answer : ElementAnswer) : Type 0 where
+  pub element : Option Element
+  pub only : OnlyAt elementBytes ValidElement s at element
+  pub places : answer ≡ elementShown at element
+  pub seen : seenElement s answer ≡ element

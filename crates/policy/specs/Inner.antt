@@ -3,14 +3,13 @@ use Prim.Native.Nat.{ℕ}
 use mathlib.Core.Option.{Option, some, none}
 use Rattle.policy.specs.declared.ListAnswer.{ListAnswer}
 use Rattle.policy.specs.declared.ListAnswer.the-variants as lists
-use Rattle.policy.specs.Grammar.{Body, Element, Signing}
-use Rattle.policy.specs.Grammar as Grammar
+use Rattle.policy_grammar.specs.Grammar.{Body, Element, Signing}
+use Rattle.policy_grammar.specs.Grammar as Grammar
 use Rattle.policy.specs.Answers.{signingShown}
 
--- the element of a body that was read
-abbrev pub withBody : ℕ → ℕ → ℕ → Option Body → Option Element
-withBody size type control none = none
-withBody size type control (some b) = some (record { size = size; type = type; control = control; body = b })
+-- the element of a body
+abbrev pub withBody : ℕ → ℕ → ℕ → Body → Element
+withBody size type control b = record { size = size; type = type; control = control; body = b }
 
 -- the key size of what signs a list, 0 where nothing does
 abbrev pub keySizeShown : Option Signing → ℕ

@@ -1,8 +1,12 @@
 -- What the contracts of the crate say.
-pub mod Grammar
-pub mod Parser
+-- The grammar and the layout, by the names that they have in policy_grammar.
+pub use Rattle.policy_grammar.specs.Grammar
+pub use Rattle.policy_grammar.specs.Format
+pub use Rattle.policy_grammar.specs.Layout
+pub use Rattle.policy_grammar.specs.Parser
+pub use Rattle.policy_grammar.specs.Decode
+-- What the reader answers.
 pub mod Answers
-pub mod Decode
 pub mod Inner
 pub mod Parts
 pub mod Demand3

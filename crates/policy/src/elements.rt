@@ -2,12 +2,16 @@
 use crate::ElementAnswer;
 use crate::numbers::number;
 ghost use mathlib.Core.Path.{_≡_};
+ghost use mathlib.Core.Option.{Option·map};
 ghost use Prim.Native.Nat.{_≤_};
 ghost use lib.ListN.{length, drop};
-ghost use Rattle.policy.specs.Grammar.{digestLength};
-ghost use Rattle.policy.specs.Parser.{valueOf, succeeds, exactly, inside, many};
-ghost use Rattle.policy.specs.Decode as Decode;
+ghost use Rattle.policy_grammar.specs.Grammar.{digestLength};
+ghost use Rattle.policy_grammar.specs.Format.{many};
+ghost use Rattle.policy_grammar.specs.Parser.{valueOf, filling, fills};
+ghost use Rattle.policy_grammar.specs.Layout as Layout;
+ghost use Rattle.policy_grammar.specs.Decode as Decode;
 ghost use Rattle.policy.specs.Answers.{elementShown, elementSize};
+ghost use Rattle.policy.specs.Demand3.{ElementAtExactly};
 ghost use Rattle.policy.specs.Inner.{withBody};
 
 // The length of a digest under an algorithm, 0 for one that is not of the grammar.
@@ -23,32 +27,38 @@ pub fn digest_length(alg: usize) -> usize
     }
 }
 
+// Whether t is the digests of an algorithm: HashAlg, a count, and exactly that many digests of its length.
+fn digests_fill(t: &[u8]) -> bool
+    ensures { λ r. ⌜ r ≡ fills Layout.digests (now (t .entry)) ⌝ }
+{
+    if t.len() < 4 {
+        return false;
+    }
+    let length = digest_length(number(t, 0, 2));
+    if length == 0 {
+        return false;
+    }
+    t.len() - 4 == number(t, 2, 2) * length
+}
+
 // The launch element at `start` that has the body b.
 fn launch(b: &[u8], start: usize, size: usize, control: usize) -> ElementAnswer
-    ensures { λ r. ⌜ r ≡ elementShown start (withBody size 0x10 control (valueOf (exactly (length (now (b .entry))) (Decode.launch (now (b .entry)))))) ⌝ }
+    ensures { λ r. ⌜ r ≡ elementShown start (Option·map (withBody size 0x10 control) (valueOf (filling Layout.launch (now (b .entry))))) ⌝ }
 {
-    if b.len() < 6 {
+    if b.len() < 2 {
         return ElementAnswer::Refused;
     }
-    let sinit_min_version = number(b, 0, 1);
-    let reserved = number(b, 1, 1);
-    let hash_alg = number(b, 2, 2);
-    let count = number(b, 4, 2);
-    let length = digest_length(hash_alg);
-    if length == 0 {
-        return ElementAnswer::Refused;
-    }
-    if b.len() - 6 != count * length {
+    if !digests_fill(&b[2..]) {
         return ElementAnswer::Refused;
     }
     ElementAnswer::Launch {
         start,
         size,
         control,
-        sinit_min_version,
-        reserved,
-        hash_alg,
-        count,
+        sinit_min_version: number(b, 0, 1),
+        reserved: number(b, 1, 1),
+        hash_alg: number(b, 2, 2),
+        count: number(b, 4, 2),
     }
 }
 
@@ -88,7 +98,7 @@ fn first_element(t: &[u8], start: usize) -> ElementAnswer
 
 // The element that stands at `at` in s.
 pub fn element_at(s: &[u8], at: usize) -> ElementAnswer
-    ensures { λ r. ⌜ r ≡ elementShown at (valueOf (Decode.element (drop at (now (s .entry))))) ⌝ }
+    ensures { λ r. ⌜ (r ≡ elementShown at (valueOf (Decode.element (drop at (now (s .entry)))))) × ElementAtExactly (now (s .entry)) at r ⌝ }
 {
     if s.len() < at {
         return ElementAnswer::Refused;
@@ -109,8 +119,8 @@ pub fn element_size(e: ElementAnswer) -> usize
 }
 
 // Whether elements fill t.
-pub fn filled(t: &[u8]) -> bool
-    ensures { λ r. ⌜ r ≡ succeeds (inside (length (now (t .entry))) (many (length (now (t .entry))) Decode.element) (now (t .entry))) ⌝ }
+pub(crate) fn filled(t: &[u8]) -> bool
+    ensures { λ r. ⌜ r ≡ fills (many (length (now (t .entry))) Layout.element) (now (t .entry)) ⌝ }
 {
     let mut at = 0;
     while at < t.len() {

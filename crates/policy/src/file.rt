@@ -3,7 +3,7 @@ use crate::FileAnswer;
 use crate::lists::lists_fill;
 use crate::numbers::number;
 ghost use mathlib.Core.Path.{_≡_};
-ghost use Rattle.policy.specs.Decode.{accepted};
+ghost use Rattle.policy_grammar.specs.Decode.{accepted};
 ghost use Rattle.policy.specs.Answers.{fileShown};
 
 const SMALLEST: usize = 36;

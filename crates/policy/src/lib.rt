@@ -23,10 +23,8 @@ pub use numbered::list;
 pub use numbered::signature;
 pub use parts::body;
 pub use parts::elements_of;
-pub use parts::key_of;
 pub use parts::part;
 pub use parts::part_at;
-pub use parts::signature_of;
 ghost use Rattle.policy.specs.Demand3.{Answered};
 
 // The offset of the first list of every file.

@@ -6,14 +6,17 @@ use crate::numbers::one_of;
 ghost use mathlib.Core.Path.{_≡_};
 ghost use Prim.Native.Nat.{_+_, _-_, _≤_, _<_, _^_};
 ghost use lib.ListN.{length, drop};
-ghost use Rattle.policy.specs.Parser.{valueOf, succeeds, exactly, times};
-ghost use Rattle.policy.specs.Decode as Decode;
+ghost use Rattle.policy_grammar.specs.Format.{times};
+ghost use Rattle.policy_grammar.specs.Parser.{valueOf, read, fills};
+ghost use Rattle.policy_grammar.specs.Layout as Layout;
+ghost use Rattle.policy_grammar.specs.Decode as Decode;
 ghost use Rattle.policy.specs.Answers.{listShown, listSize};
+ghost use Rattle.policy.specs.Demand3.{ListAtExactly};
 ghost use Rattle.policy.specs.Inner.{keySizeShown, signedShown};
 
 // The key size of what signs a list, at the front of t, where it is of the grammar; else 0.
 fn key_size(t: &[u8]) -> usize
-    ensures { λ r. ⌜ (r ≡ keySizeShown (valueOf (Decode.signed (now (t .entry))))) × (r + r ≤ length (now (t .entry)) - 4) ⌝ }
+    ensures { λ r. ⌜ (r ≡ keySizeShown (valueOf (read Layout.signed (now (t .entry))))) × (r + r ≤ length (now (t .entry)) - 4) ⌝ }
 {
     if t.len() < 4 {
         return 0;
@@ -31,7 +34,7 @@ fn key_size(t: &[u8]) -> usize
 // The signed list at the front of t, which stands at `start`, with elements that end at `end`.
 fn signed_list(t: &[u8], start: usize, version: usize, end: usize) -> ListAnswer
     requires { ⌜ (8 ≤ end) × (end ≤ length (now t)) × (start + length (now t) < 2 ^ 64) ⌝ }
-    ensures { λ r. ⌜ r ≡ signedShown start version (end - 8) (valueOf (Decode.signed (drop end (now (t .entry))))) ⌝ }
+    ensures { λ r. ⌜ r ≡ signedShown start version (end - 8) (valueOf (read Layout.signed (drop end (now (t .entry))))) ⌝ }
 {
     let size = key_size(&t[end..]);
     if size == 0 {
@@ -89,7 +92,7 @@ fn first_list(t: &[u8], start: usize) -> ListAnswer
 
 // The list that stands at `at` in s.
 pub fn list_at(s: &[u8], at: usize) -> ListAnswer
-    ensures { λ r. ⌜ r ≡ listShown at (valueOf (Decode.list (drop at (now (s .entry))))) ⌝ }
+    ensures { λ r. ⌜ (r ≡ listShown at (valueOf (Decode.list (drop at (now (s .entry)))))) × ListAtExactly (now (s .entry)) at r ⌝ }
 {
     if s.len() < at {
         return ListAnswer::Absent;
@@ -109,8 +112,8 @@ pub fn list_size(l: ListAnswer) -> usize
 }
 
 // Whether n lists fill t.
-pub fn lists_fill(t: &[u8], n: usize) -> bool
-    ensures { λ r. ⌜ r ≡ succeeds (exactly (length (now (t .entry))) (times n Decode.list (now (t .entry)))) ⌝ }
+pub(crate) fn lists_fill(t: &[u8], n: usize) -> bool
+    ensures { λ r. ⌜ r ≡ fills (times n Layout.list) (now (t .entry)) ⌝ }
 {
     let mut at = 0;
     let mut k = 0;

@@ -16,8 +16,8 @@ ghost use mathlib.Core.Path.{_≡_};
 ghost use mathlib.Core.List.{List, flatMap};
 ghost use Prim.Native.Nat.{_≤_};
 ghost use lib.ListN.{length, drop};
-ghost use Rattle.policy.specs.Grammar.{Element, PolicyList, elementBytes, listBytes, ValidElement, ValidList, All};
-ghost use Rattle.policy.specs.Decode.{accepted};
+ghost use Rattle.policy_grammar.specs.Grammar.{Element, PolicyList, elementBytes, listBytes, ValidElement, ValidList, All};
+ghost use Rattle.policy_grammar.specs.Decode.{accepted};
 ghost use Rattle.policy.specs.Answers.{listIn, listAnswer, keyAnswer, signatureAnswer, elementIn, elementAnswer};
 
 // The list number i of those that stand in s from `start` on.

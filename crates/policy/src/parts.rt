@@ -33,7 +33,7 @@ pub fn elements_of(l: ListAnswer) -> PartAnswer
 }
 
 // The key of a list, where it is signed.
-pub fn key_of(l: ListAnswer) -> PartAnswer
+pub(crate) fn key_of(l: ListAnswer) -> PartAnswer
     ensures { λ r. ⌜ r ≡ keyOf l ⌝ }
 {
     match l {
@@ -47,7 +47,7 @@ pub fn key_of(l: ListAnswer) -> PartAnswer
 }
 
 // The signature of a list, where it is signed.
-pub fn signature_of(l: ListAnswer) -> PartAnswer
+pub(crate) fn signature_of(l: ListAnswer) -> PartAnswer
     ensures { λ r. ⌜ r ≡ signatureOf l ⌝ }
 {
     match l {

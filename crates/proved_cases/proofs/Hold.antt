@@ -12,7 +12,9 @@ use Rattle.sinit.specs.Module.{E, rowOf}
 use Rattle.rules.specs.Rules.{all, answerFor}
 use Rattle.sinit.specs.Rules.{someBelow, inside, place, header, gdt, entry, selector, table, list, revisionMatches, match, listed, supported, moduleOf}
 use Rattle.policy.specs.Grammar.{digestLength, markCharacters}
+use Rattle.policy.specs.Format as F
 use Rattle.policy.specs.Parser as P
+use Rattle.policy.specs.Layout as L
 use Rattle.policy.specs.Decode as D
 use Rattle.decision.specs.Lists.{names}
 use Rattle.pages.specs.Entry.{presentOf, addressOf, reservedClear}
@@ -33,7 +35,7 @@ tested [] e = tt
 tested (c ∷ cs) e = let p = and-eq-true-iff _ _ .0 e in (eqb-true _ _ (p .0), tested cs (p .1))
 
 table-holds : AllCases cases
-unfolding test flatMap bytes number fieldAt valueOf endsBy biosDataSize osMleDataSize osSinitDataSize partsFit osSinitPart fieldsOf versionKnown sizeFits endsWithin lowPlaced highPlaced pmrsPlaced numberOf answerFor heapOf same markedAt insideOf E rowOf all someBelow inside place header gdt entry selector table list revisionMatches match listed supported moduleOf presentOf addressOf reservedClear allowed protected clearOf foundFrom follows rulesFrom digestLength markCharacters P.after P.continue P._>>=_ P.done P.number P.string P.rest P.exactly P.inside P.times P.many D.launch D.other D.body D.element D.signed D.signing D.list D.file D.reading D.accepted
+unfolding test flatMap bytes number fieldAt valueOf endsBy biosDataSize osMleDataSize osSinitDataSize partsFit osSinitPart fieldsOf versionKnown sizeFits endsWithin lowPlaced highPlaced pmrsPlaced numberOf answerFor heapOf same markedAt insideOf E rowOf all someBelow inside place header gdt entry selector table list revisionMatches match listed supported moduleOf presentOf addressOf reservedClear allowed protected clearOf foundFrom follows rulesFrom digestLength markCharacters F._>>=_ F.number F.string F.rest F.inside F.times F.many P.after P.continue P.exactly P.read L.digests L.launch L.other L.body L.element L.signed L.signing L.list L.file D.whole D.reading D.accepted
 table-holds =
     tested cases
     (rw (
@@ -43,8 +45,8 @@ table-holds =
     ))
 
 names-nothing : NamesNothing
-unfolding names bytes number digestLength P.after P.continue P._>>=_ P.done P.number P.string P.rest P.exactly P.inside P.times D.launch D.other D.body D.element
-names-nothing digest acmVersion = refl
+unfolding names bytes number digestLength F._>>=_ F.number F.string F.rest F.inside F.times P.after P.continue P.exactly P.read L.digests L.launch L.other L.body L.element
+names-nothing k = refl
 
 pub both-sides : BothSides
 both-sides = record { table = table-holds; namesNothing = names-nothing }

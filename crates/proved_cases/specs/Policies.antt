@@ -6,6 +6,7 @@ use mathlib.Core.Option.{Option, some, none}
 use lib.ListN.{replicate}
 use Rattle.field.specs.Number.{bytes}
 use Rattle.policy.specs.Grammar.{Element, markCharacters}
+use Rattle.decision.specs.declared.Criteria.{Criteria}
 use Rattle.decision.specs.Lists.{names}
 use Rattle.proved_cases.specs.Modules.{zeros}
 
@@ -26,6 +27,6 @@ abbrev pub sizeOf : Option Element → ℕ
 sizeOf none = 0
 sizeOf (some e) = e .size
 
-abbrev pub namesIn : List ℕ → ℕ → Option Element → Bool
-namesIn digest acmVersion none = true
-namesIn digest acmVersion (some e) = names digest acmVersion e
+abbrev pub namesIn : Criteria → Option Element → Bool
+namesIn k none = true
+namesIn k (some e) = names k e

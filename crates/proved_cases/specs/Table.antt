@@ -13,6 +13,7 @@ use Rattle.policy.specs.Decode.{element, accepted}
 use Rattle.policy.specs.Answers.{fileShown}
 use Rattle.policy.specs.Demand3 as policy
 use Rattle.field.specs.Number.{bytes}
+use Rattle.decision.specs.declared.Criteria.{Criteria}
 use Rattle.proved_cases.specs.Heaps.{heapElement, endElement, afterSize, osSinitData, heapBytes}
 use Rattle.proved_cases.specs.Policies.{fileWith, noDigest, sizeOf, namesIn}
 use Rattle.proved_cases.specs.Modules.{zeros, moduleWith}
@@ -103,9 +104,9 @@ cases =
     ∷ case 10 (walkNumber (entryOf 0x104000 ∷ entryOf 0x104000 ∷ [])) 16
     ∷ []
 
--- P12, "names nothing": whatever the digest and AcmVersion are
+-- P12, "names nothing": whatever a list is judged by
 abbrev pub NamesNothing : Type 0
-NamesNothing = (digest : List ℕ) (acmVersion : ℕ) → namesIn digest acmVersion (valueOf (element noDigest)) ≡ false
+NamesNothing = (k : Criteria) → namesIn k (valueOf (element noDigest)) ≡ false
 
 -- the one statement of the cases
 pub record BothSides : Type 0 where

@@ -23,6 +23,12 @@ module _ {A : Type 0} (refused : ℕ → A) (a : A) where
   for-other zero h = absurd (h refl)
   for-other (suc n) h = refl
 
+  -- what is made of an answer
+  pub made-of : {B : Type 0} (make : A → B) (n : ℕ) → make (answerFor refused a n) ≡ answerFor (λ (k : ℕ). make (refused k)) (make a) n
+  unfolding answerFor
+  made-of make zero = refl
+  made-of make (suc n) = refl
+
   -- what looks at an answer shows its number
   pub number-of : (number : A → ℕ) → number a ≡ 0 → ((n : ℕ) → number (refused n) ≡ n) → (n : ℕ) → number (answerFor refused a n) ≡ n
   unfolding answerFor

@@ -5,7 +5,7 @@ use mathlib.Core.Logic.{_↔_}
 use mathlib.Core.Bool.{Bool, true, false, cond}
 use mathlib.Core.List.{List, [], _∷_, _++_, append-nil}
 use native.Mathlib.Omega.{arith}
-use Rattle.rules.specs.Rules.{Rule, firstFailing, AllHold, Numbered, FirstFails}
+use Rattle.rules.specs.Rules.{Rule, firstFailing, Every, AllHold, Numbered, FirstFails}
 
 -- rules that hold are passed over
 pub passed : (rs later : List Rule) → AllHold rs → firstFailing (rs ++ later) ≡ firstFailing later
@@ -64,9 +64,13 @@ first-exactly rs n z = (
 
 -- RULES JOINED
 
-pub numbered-append : (rs later : List Rule) → Numbered rs → Numbered later → Numbered (rs ++ later)
-numbered-append [] later y z = z
-numbered-append (r ∷ rs) later y z = (y .0, numbered-append rs later (y .1) z)
+pub every-append : (P : Rule → Type 0) (rs later : List Rule) → Every P rs → Every P later → Every P (rs ++ later)
+every-append P [] later y z = z
+every-append P (r ∷ rs) later y z = (y .0, every-append P rs later (y .1) z)
+
+pub every-map : (P Q : Rule → Type 0) → ((r : Rule) → P r → Q r) → (rs : List Rule) → Every P rs → Every Q rs
+every-map P Q f [] h = tt
+every-map P Q f (r ∷ rs) h = (f r (h .0), every-map P Q f rs (h .1))
 
 -- the number is 0 exactly where it is 0 for each of the two lists; or where one rule holds and the number of the later ones is 0
 pub joined-exactly : (rs later : List Rule) → Numbered rs → (firstFailing (rs ++ later) ≡ 0) ↔ ((firstFailing rs ≡ 0) × (firstFailing later ≡ 0))
@@ -82,19 +86,28 @@ joined-exactly rs later m = (
 pub rule-exactly : (n : ℕ) (b : Bool) (later : ℕ) → 0 < n → (cond b later n ≡ 0) ↔ ((b ≡ true) × (later ≡ 0))
 rule-exactly n b later z = (holds-first b later n z, λ h. rw (h .0) (h .1))
 
+-- NUMBERS WITHIN BOUNDS
+
+abbrev pub NumbersIn : ℕ → ℕ → List Rule → Type 0
+NumbersIn least most rs = Every (λ (r : Rule). (least ≤ r .number) × (r .number ≤ most)) rs
+
+pub numbers-not-0 : (least most : ℕ) (rs : List Rule) → 0 < least → NumbersIn least most rs → Numbered rs
+numbers-not-0 least most rs z h = every-map _ _ (λ r b. omega (arith, b .0)) rs h
+
+-- no number is over the highest
+pub number-most : (least most : ℕ) (rs : List Rule) → NumbersIn least most rs → firstFailing rs ≤ most
+number-most least most [] h = omega arith
+number-most least most (r ∷ rs) h = by (r .holds) (number-most least most rs (h .1))
+  where
+    by : (b : Bool) → firstFailing rs ≤ most → cond b (firstFailing rs) (r .number) ≤ most
+    by true rest = rest
+    by false rest = h .0 .1
+
 -- where no number of the first list is over a bound, a number over the bound comes from the second
-abbrev pub AtMost : ℕ → List Rule → Type 0
-AtMost bound [] = Unit
-AtMost bound (r ∷ rs) = (r .number ≤ bound) × AtMost bound rs
-
-pub at-most-append : (bound : ℕ) (rs later : List Rule) → AtMost bound rs → AtMost bound later → AtMost bound (rs ++ later)
-at-most-append bound [] later y z = z
-at-most-append bound (r ∷ rs) later y z = (y .0, at-most-append bound rs later (y .1) z)
-
-pub from-later : (bound n : ℕ) (rs later : List Rule) → AtMost bound rs → bound < n → firstFailing (rs ++ later) ≡ n → firstFailing later ≡ n
-from-later bound n [] later y l e = e
-from-later bound n (r ∷ rs) later y l e = by (r .holds) (from-later bound n rs later (y .1) l) e
+pub from-later : (least most n : ℕ) (rs later : List Rule) → NumbersIn least most rs → most < n → firstFailing (rs ++ later) ≡ n → firstFailing later ≡ n
+from-later least most n [] later y l e = e
+from-later least most n (r ∷ rs) later y l e = by (r .holds) (from-later least most n rs later (y .1) l) e
   where
     by : (b : Bool) → (firstFailing (rs ++ later) ≡ n → firstFailing later ≡ n) → cond b (firstFailing (rs ++ later)) (r .number) ≡ n → firstFailing later ≡ n
     by true rest h = rest h
-    by false rest h = absurd (omega (arith, y .0))
+    by false rest h = absurd (omega (arith, y .0 .1))

@@ -22,14 +22,17 @@ abbrev pub firstFailing : List Rule → ℕ
 firstFailing [] = 0
 firstFailing (r ∷ rs) = cond (r .holds) (firstFailing rs) (r .number)
 
+-- something is so of every rule
+abbrev pub Every : (Rule → Type 0) → List Rule → Type 0
+Every P [] = Unit
+Every P (r ∷ rs) = P r × Every P rs
+
 abbrev pub AllHold : List Rule → Type 0
-AllHold [] = Unit
-AllHold (r ∷ rs) = (r .holds ≡ true) × AllHold rs
+AllHold rs = Every (λ (r : Rule). r .holds ≡ true) rs
 
 -- no rule has the number 0, which says that all hold
 abbrev pub Numbered : List Rule → Type 0
-Numbered [] = Unit
-Numbered (r ∷ rs) = (0 < r .number) × Numbered rs
+Numbered rs = Every (λ (r : Rule). 0 < r .number) rs
 
 -- a rule with the number n fails, and all rules before it hold
 pub record FirstFails (rs : List Rule) (n : ℕ) : Type 0 where

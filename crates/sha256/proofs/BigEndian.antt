@@ -1,12 +1,14 @@
 -- The bytes of a number, the highest first, for every width.
 use mathlib.Core.Path.{_≡_, _∙_, ap, refl, sym}
 use mathlib.Core.List.{List, [], _∷_}
-use Prim.Native.Nat.{ℕ, zero, suc, _-_, _*_, _/_, _%_, _^_, _<_}
+use Prim.Native.Nat.{ℕ, zero, suc, _+_, _-_, _*_, _/_, _%_, _^_, _<_}
 use native.Mathlib.Omega.{arith}
 use native.Mathlib.Nat.{pow-suc, not-suc-le-zero}
 use lib.ListN.{length, getD, length-append}
-use lib.Pow.{pow-add}
-use Rattle.sha256.specs.Message.{byteOf, bigEndian, digestOf}
+use lib.Dec.{lit<}
+use lib.Arith.{mod-mul}
+use lib.Pow.{pow-add, pow-pos}
+use Rattle.sha256.specs.Message.{byteOf, bigEndian, numeral, digestOf}
 
 -- a byte is what a shift by its place leaves
 pow-eight : (k : ℕ) → 2 ^ (8 * k) ≡ 256 ^ k
@@ -30,6 +32,18 @@ unfolding bigEndian
 getD-big zero x i h = absurd (not-suc-le-zero h)
 getD-big (suc k) x zero h = ap (λ (n : ℕ). byteOf n x) (omega arith)
 getD-big (suc k) x (suc i) h = getD-big k x i (omega arith) ∙ ap (λ (n : ℕ). byteOf n x) (omega arith)
+
+-- the bytes of a number write it, as far as they are enough
+pub numeral-big : (k x : ℕ) → numeral (bigEndian k x) ≡ x % 256 ^ k
+unfolding numeral bigEndian
+numeral-big zero x = omega arith
+numeral-big (suc k) x =
+    let p : 0 < 256 ^ k = rw (← pow-eight k) (pow-pos (8 * k)) in
+    let e : 256 * 256 ^ k ≡ 256 ^ suc k = omega (arith, pow-suc 256 k) in
+    ap (λ (n : ℕ). byteOf k x * 256 ^ n + numeral (bigEndian k x)) (length-big k x)
+    ∙ ap (λ (n : ℕ). byteOf k x * 256 ^ k + n) (numeral-big k x)
+    ∙ sym (mod-mul x (lit< tt) p)
+    ∙ ap (λ (n : ℕ). x % n) e
 
 -- the bytes of a hash value, four for each word
 pub length-digest : (h : List ℕ) → length (digestOf h) ≡ 4 * length h

@@ -1,36 +1,28 @@
--- The hash value over blocks: one block more, and what absorbing a part does to a state, by whether the part fills its block.
+-- What absorbing a part does to a state, by whether the part fills its block.
 use mathlib.Core.Path.{_≡_, _∙_, ap, ap₂, sym}
 use mathlib.Core.List.{List, _++_, append-nil}
-use Prim.Native.Nat.{ℕ, zero, suc, _+_, _-_, _*_, _/_, _%_, _^_, _<_, _≤_, zero-le}
+use Prim.Native.Nat.{ℕ, suc, _+_, _-_, _*_, _/_, _%_, _^_, _<_, _≤_, zero-le}
 use native.Mathlib.Nat.{le-refl, le-of-eq}
 use native.Mathlib.Omega.{arith}
 use lib.ListN.{length, drop, take, length-append, length-drop}
 use lib.Seq.{take-append-add, drop-append-add, take-length, take-all, take-take, drop-drop, drop-length, paste, take-paste, length-take-le}
+use Rattle.sha256_block.specs.Block.{hash, hashBlocks}
 use Rattle.sha256.specs.declared.Running.{Running}
-use Rattle.sha256.specs.Block.{compressOf}
-use Rattle.sha256.specs.Message.{hash}
-use Rattle.sha256.specs.State.{pending, Absorbed}
+use Rattle.sha256.specs.State.{pending, remainder, Absorbed}
 
--- ---- what is left to hash of n blocks from place i on, after k of them
-pub none-yet : (n i : ℕ) (h s : List ℕ) → hash (n - 0) h (drop (i + 64 * 0) s) ≡ hash n h (drop i s)
-none-yet n i h s =
-    let a : n - 0 ≡ n = omega arith in
-    let b : i + 64 * 0 ≡ i = omega arith in
-    rw (a, b)
+-- ---- a string by its first block
+module _ (m : List ℕ) (le : 64 ≤ length m) where
+  first-block : (h : List ℕ) → hashBlocks (hashBlocks h (take 64 m)) (drop 64 m) ≡ hashBlocks h m
+  unfolding hash
+  first-block h =
+      let a : length (take 64 m) / 64 ≡ 1 = omega (arith, length-take-le 64 m le) in
+      let q : length m / 64 ≡ suc (length (drop 64 m) / 64) = omega (arith, length-drop 64 m) in
+      rw (a, q, take-take 64 64 m (le-refl 64))
 
-pub one-block : (n k i : ℕ) (h s : List ℕ) → k < n
-    → hash (n - (k + 1)) (compressOf h (take 64 (drop (i + 64 * k) s))) (drop (i + 64 * (k + 1)) s) ≡ hash (n - k) h (drop (i + 64 * k) s)
-unfolding hash
-one-block n k i h s lt =
-    let a : n - k ≡ suc (n - (k + 1)) = omega arith in
-    let b : i + 64 * (k + 1) ≡ i + 64 * k + 64 = omega arith in
-    rw (a, b, sym (drop-drop 64 (i + 64 * k) s))
-
-pub all-done : (n k : ℕ) (h s : List ℕ) → n ≤ k → hash (n - k) h s ≡ h
-unfolding hash
-all-done n k h s le =
-    let a : n - k ≡ zero = omega arith in
-    rw a
+  first-remainder : remainder (drop 64 m) ≡ remainder m
+  first-remainder =
+      let e : 64 + length (drop 64 m) / 64 * 64 ≡ length m / 64 * 64 = omega (arith, length-drop 64 m) in
+      drop-drop (length (drop 64 m) / 64 * 64) 64 m ∙ ap (λ (j : ℕ). drop j m) e
 
 -- ---- a part that does not fill the block
 module _ (s : Running) (p b : List ℕ) (t : ℕ) (long : length (s .block) ≡ 64) where
@@ -72,35 +64,35 @@ module _ (s : Running) (p b : List ℕ) (t : ℕ) (long : length (s .block) ≡ 
         ∙ sym (take-append-add (pending s) p room)
         ∙ ap (λ (n : ℕ). take n (pending s ++ p)) (sym f)
 
-    -- behind the first n bytes of the part and what waits before it
-    behind : (n : ℕ) → drop (s .total % 64 + n) (pending s ++ p) ≡ drop n p
-    behind n = ap (λ (j : ℕ). drop (j + n) (pending s ++ p)) (sym front) ∙ drop-append-add (pending s) p n
+    later : drop room p ≡ drop 64 (pending s ++ p)
+    unfolding room
+    later =
+        let f : length (pending s) + room ≡ 64 = omega (arith, front) in
+        sym (drop-append-add (pending s) p room) ∙ ap (λ (i : ℕ). drop i (pending s ++ p)) f
 
-    pub large : (first all rest : List ℕ) (n : ℕ) → first ≡ hash 1 (s .words) (drop 0 b) → n ≡ (length p - (64 - s .total % 64)) / 64
-        → all ≡ hash n first (drop (64 - s .total % 64) p)
-        → rest ≡ paste b 0 (drop (64 - s .total % 64 + 64 * n) p) (length (drop (64 - s .total % 64 + 64 * n) p))
+    pub large : (first all rest behind left : List ℕ) → first ≡ hashBlocks (s .words) b → behind ≡ drop (64 - s .total % 64) p
+        → all ≡ hashBlocks first behind
+        → left ≡ remainder behind
+        → rest ≡ paste b 0 left (length left)
         → t ≡ (s .total + length p) % 2 ^ 64
         → Absorbed s p (record { words = all; block = rest; total = t })
-    unfolding hash
-    large first all rest n ef en ea er et =
-        let at = 64 - s .total % 64 + 64 * n in
-        let l : length (drop at p) ≡ length p - at = length-drop at p in
-        let q : length (pending s ++ p) / 64 ≡ suc n = omega (arith, whole) in
-        let r : t % 64 ≡ 0 + length (drop at p) = omega arith in
-        let g : suc n * 64 ≡ s .total % 64 + at = omega arith in
-        let j : 64 ≡ s .total % 64 + (64 - s .total % 64) = omega arith in
-        let once : first ≡ compressOf (s .words) (take 64 (pending s ++ p)) =
-        ef ∙ ap (compressOf (s .words)) (ap (take 64) filled-up ∙ take-take 64 64 (pending s ++ p) (le-refl 64)) in
-        let later : drop (64 - s .total % 64) p ≡ drop 64 (pending s ++ p) =
-        sym (behind (64 - s .total % 64)) ∙ ap (λ (i : ℕ). drop i (pending s ++ p)) (sym j) in
+    unfolding room
+    large first all rest behind left ef ep ea el er et =
+        let m = pending s ++ p in
+        let full : 64 ≤ length m = omega (arith, whole) in
+        let d : behind ≡ drop 64 m = ep ∙ later in
+        let w : length left ≡ length behind - length behind / 64 * 64 = ap length el ∙ length-drop (length behind / 64 * 64) behind in
+        let n : length behind ≡ length m - 64 = ap length d ∙ length-drop 64 m in
+        let r : t % 64 ≡ 0 + length left = omega (arith, whole) in
         record {
-          words = ea ∙ ap₂ (hash n) once later ∙ ap (λ (i : ℕ). hash i (s .words) (pending s ++ p)) (sym q);
+          words = ea ∙ ap₂ hashBlocks (ef ∙ ap (hashBlocks (s .words)) filled-up) d ∙ first-block m full (s .words);
           waits =
               ap₂ take r er
-              ∙ take-paste b 0 (drop at p) (length (drop at p)) zero-le (le-refl (length (drop at p)))
-              ∙ take-length (drop at p)
-              ∙ sym (behind at)
-              ∙ ap (λ (i : ℕ). drop i (pending s ++ p)) (sym (ap (λ (i : ℕ). i * 64) q ∙ g));
+              ∙ take-paste b 0 left (length left) zero-le (le-refl (length left))
+              ∙ take-length left
+              ∙ el
+              ∙ ap remainder d
+              ∙ first-remainder m full;
           total = et;
         }
 

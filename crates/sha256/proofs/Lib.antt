@@ -1,8 +1,5 @@
 pub mod Fill
 pub mod BigEndian
-pub mod BlockWords
 pub mod Padding
-pub mod Schedule
 pub mod Hashing
 pub mod Parts
-pub mod Bitwise

@@ -1,27 +1,38 @@
--- The padding: its zeros are the fewest that FIPS 180-4, 5.1.1, allows, a length modulo 2^64 is enough to know it, and it
--- stands at the front of the array that holds it.
-use mathlib.Core.Path.{_≡_, _∙_, ap, ap₂, refl}
-use mathlib.Core.List.{List, _∷_, _++_}
-use Prim.Native.Nat.{ℕ, zero, suc, _+_, _*_, _%_, _^_, _≤_}
+-- The padding: it is what FIPS 180-4, 5.1.1, asks for, a length modulo 2^64 is enough to know it, and it stands at the front of
+-- the array that holds it.
+use mathlib.Core.Path.{_≡_, _∙_, ap, ap₂, refl, sym}
+use mathlib.Core.List.{List, _∷_, _++_, append-assoc}
+use Prim.Native.Nat.{ℕ, zero, suc, _+_, _*_, _%_, _-_, _^_, _≤_}
 use native.Mathlib.Omega.{arith}
 use native.Mathlib.Nat.{not-suc-le-zero, le-of-suc-le-suc, le-of-eq}
 use native.Mathlib.Numerals.{add-one}
 use lib.ListN.{length, take, replicate, length-append, length-replicate}
-use lib.Seq.{paste, take-paste, take-all}
-use Rattle.sha256.specs.Message.{bigEndian, zeros, padding}
-use Rattle.sha256.proofs.BigEndian.{length-big}
+use lib.Seq.{paste, take-paste, take-all, drop-at}
+use Rattle.sha256.specs.Message.{bigEndian, zeros, padding, numeral, PaddedBelow}
+use Rattle.sha256.proofs.BigEndian.{length-big, numeral-big}
 
--- message, 0x80 and zeros are 56 bytes modulo 64, and no fewer zeros make it so
-pub zeros-fill : (n : ℕ) → (n + 1 + zeros n) % 64 ≡ 56
-zeros-fill n = omega arith
-
-pub zeros-fewest : (n z : ℕ) → (n + 1 + z) % 64 ≡ 56 → zeros n ≤ z
-zeros-fewest n z h = omega arith
-
--- message and padding are whole blocks
 pub length-padding : (n : ℕ) → length (padding n) ≡ zeros n + 9
 unfolding padding
 length-padding n = simp (length-append, length-replicate) (omega (arith, length-big 8 (n * 8 % 2 ^ 64)))
+
+pub padded-exactly : PaddedBelow
+unfolding padding
+padded-exactly m below =
+    let n = length m in
+    let b = bigEndian 8 (n * 8 % 2 ^ 64) in
+    let front : List ℕ = m ++ 0x80 ∷ replicate (zeros n) 0 in
+    let whole : m ++ padding n ≡ front ++ b = sym (append-assoc m (0x80 ∷ replicate (zeros n) 0) b) in
+    let f : length front ≡ n + 1 + zeros n = simp (length-append, length-replicate) (omega arith) in
+    let l : length (front ++ b) ≡ length front + 8 = simp length-append (omega (arith, length-big 8 (n * 8 % 2 ^ 64))) in
+    record {
+      blocks = rw whole (omega arith);
+      fewest = λ k h. omega arith;
+      last =
+          rw whole
+          (ap numeral (drop-at front b (length (front ++ b) - 8) (omega arith))
+          ∙ numeral-big 8 (n * 8 % 2 ^ 64)
+          ∙ omega arith);
+    }
 
 pub padding-mod : (n : ℕ) → padding (n % 2 ^ 64) ≡ padding n
 unfolding padding

@@ -8,9 +8,8 @@ use native.Mathlib.Omega.{arith}
 use lib.ListN.{length, drop, take, length-append, length-drop}
 use lib.Seq.{take-append-le, drop-append-le, drop-drop}
 use Rattle.sha256.specs.declared.Running.{Running}
-use Rattle.sha256.specs.Constants.{H0}
-use Rattle.sha256.specs.Block.{compressOf}
-use Rattle.sha256.specs.Message.{hash, hashBlocks, padding, digestOf, sha256}
+use Rattle.sha256_block.specs.Block.{compressOf, hash, hashBlocks}
+use Rattle.sha256.specs.Message.{H0, padding, digestOf, sha256}
 use Rattle.sha256.specs.State.{remainder, started, Absorbed, finishOf, Holds}
 use Rattle.sha256.proofs.Padding.{padding-mod}
 

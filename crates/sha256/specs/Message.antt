@@ -1,9 +1,9 @@
--- SHA-256 of a message of bytes: FIPS 180-4, sections 5.1.1 and 6.2.
-use Prim.Native.Nat.{ℕ, zero, suc, _+_, _-_, _*_, _/_, _%_, _^_}
+-- SHA-256 of a message of bytes: FIPS 180-4, sections 5.1.1, 5.3.3 and 6.2.
+use Prim.Native.Nat.{ℕ, zero, suc, _+_, _-_, _*_, _/_, _%_, _^_, _<_, _≤_}
+use mathlib.Core.Path.{_≡_}
 use mathlib.Core.List.{List, [], _∷_, _++_}
-use lib.ListN.{length, replicate, take, drop}
-use Rattle.sha256.specs.Constants.{H0}
-use Rattle.sha256.specs.Block.{compressOf}
+use lib.ListN.{length, replicate, drop}
+use Rattle.sha256_block.specs.Block.{hashBlocks}
 
 -- 3.1: the byte with a number, 0 the lowest; and the lowest bytes of a number, the highest of them first
 abbrev pub byteOf : ℕ → ℕ → ℕ
@@ -22,14 +22,25 @@ zeros n = (119 - n % 64) % 64
 unfoldable pub padding : ℕ → List ℕ
 padding n = 0x80 ∷ (replicate (zeros n) 0 ++ bigEndian 8 (n * 8 % 2 ^ 64))
 
--- 6.2.2: the hash value after n blocks of a string, from the hash value h on
-unfoldable pub hash : ℕ → List ℕ → List ℕ → List ℕ
-hash zero h m = h
-hash (suc n) h m = hash n (compressOf h (take 64 m)) (drop 64 m)
+-- 3.1: the number that bytes write, the highest first
+unfoldable pub numeral : List ℕ → ℕ
+numeral [] = 0
+numeral (b ∷ s) = b * 256 ^ length s + numeral s
 
--- after all its whole blocks
-abbrev pub hashBlocks : List ℕ → List ℕ → List ℕ
-hashBlocks h m = hash (length m / 64) h m
+-- 5.1.1 as a proposition about a message: padded it is whole blocks, its zeros are the fewest, and its last eight bytes write its
+-- length in bits
+pub record PaddedExactly (m : List ℕ) : Type 0 where
+  pub blocks : length (m ++ padding (length m)) % 64 ≡ 0
+  pub fewest : (k : ℕ) → (length m + 1 + k) % 64 ≡ 56 → zeros (length m) ≤ k
+  pub last : numeral (drop (length (m ++ padding (length m)) - 8) (m ++ padding (length m))) ≡ length m * 8
+
+-- every message that FIPS 180-4 has is padded so
+abbrev pub PaddedBelow : Type 0
+PaddedBelow = (m : List ℕ) → length m * 8 < 2 ^ 64 → PaddedExactly m
+
+-- 5.3.3: the initial hash value, eight words
+abbrev pub H0 : List ℕ
+H0 = 0x6a09e667 ∷ 0xbb67ae85 ∷ 0x3c6ef372 ∷ 0xa54ff53a ∷ 0x510e527f ∷ 0x9b05688c ∷ 0x1f83d9ab ∷ 0x5be0cd19 ∷ []
 
 -- 6.2.2, end: the bytes of the hash value
 unfoldable pub digestOf : List ℕ → List ℕ

@@ -4,8 +4,8 @@ use mathlib.Core.Path.{_≡_}
 use mathlib.Core.List.{List, _++_}
 use lib.ListN.{length, replicate, take, drop}
 use Rattle.sha256.specs.declared.Running.{Running}
-use Rattle.sha256.specs.Constants.{H0}
-use Rattle.sha256.specs.Message.{padding, hashBlocks, digestOf}
+use Rattle.sha256_block.specs.Block.{hashBlocks}
+use Rattle.sha256.specs.Message.{H0, padding, digestOf}
 
 -- the bytes that wait for their block to fill up; the bytes of the block behind them mean nothing
 abbrev pub pending : Running → List ℕ

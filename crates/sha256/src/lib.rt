@@ -1,15 +1,25 @@
 // SHA-256 (FIPS 180-4): of a slice, or of a message that comes in parts.
-mod block;
-mod constants;
-mod word;
+mod number;
 
-use crate::constants::H0;
+use sha256_block::hash_blocks;
 ghost use mathlib.Core.Path.{_≡_};
 ghost use Prim.Native.Nat.{_+_, _*_, _≤_, _%_, _-_};
 ghost use lib.ListN.{length, take, drop};
 ghost use lib.Seq.{paste};
-ghost use Rattle.sha256.specs.Message.{hash, padding, zeros, digestOf, sha256};
+ghost use Rattle.sha256.specs.Message.{padding, zeros, digestOf, sha256};
 ghost use Rattle.sha256.specs.State.{started, Absorbed, finishOf};
+
+// The initial hash value, as FIPS 180-4, 5.3.3, prints it.
+const H0: [u32; 8] = [
+    0x6a09e667,
+    0xbb67ae85,
+    0x3c6ef372,
+    0xa54ff53a,
+    0x510e527f,
+    0x9b05688c,
+    0x1f83d9ab,
+    0x5be0cd19,
+];
 
 // A digest of which a part was worked out. Every value is a state.
 pub struct Running {
@@ -45,21 +55,6 @@ fn filled(block: [u8; 64], at: usize, s: &[u8]) -> [u8; 64]
     b
 }
 
-// The hash value after n blocks of s from place i on. It alone calls `compress`, which is then compiled into its loop.
-fn blocks(h: [u32; 8], s: &[u8], i: usize, n: usize) -> [u32; 8]
-    requires { ⌜ i + 64 * n ≤ length (now s) ⌝ }
-    ensures { λ r. ⌜ r ≡ hash n h (drop i (now (s .entry))) ⌝ }
-{
-    let mut words = h;
-    let mut k = 0;
-    while k < n {
-        let next = block::compress(words, s, i + 64 * k);
-        words = next;
-        k += 1;
-    }
-    words
-}
-
 // The state after one part more of the message.
 pub fn absorb(s: Running, part: &[u8]) -> Running
     ensures { λ r. ⌜ Absorbed s (now (part .entry)) r ⌝ }
@@ -78,11 +73,11 @@ pub fn absorb(s: Running, part: &[u8]) -> Running
         };
     }
     let b = filled(block, fill, &part[..room]);
-    let first = blocks(words, &b, 0, 1);
-    let n = (part.len() - room) / 64;
-    let all = blocks(first, part, room, n);
-    let at = room + 64 * n;
-    let rest = filled(b, 0, &part[at..]);
+    let first = hash_blocks(words, &b);
+    let behind = &part[room..];
+    let all = hash_blocks(first, behind);
+    let at = behind.len() / 64 * 64;
+    let rest = filled(b, 0, &behind[at..]);
     Running {
         words: all,
         block: rest,
@@ -100,7 +95,7 @@ fn padded(total: u64) -> [u8; 72]
     p[0] = 0x80;
     let mut k = 0;
     while k < 8 {
-        p[z + 1 + k] = word::byte64(bits, 7 - k);
+        p[z + 1 + k] = number::byte(bits, 7 - k);
         k += 1;
     }
     p
@@ -113,7 +108,7 @@ fn bytes(h: [u32; 8]) -> [u8; 32]
     let mut d = [0u8; 32];
     let mut i = 0;
     while i < 32 {
-        d[i] = word::byte32(h[i / 4], 3 - i % 4);
+        d[i] = number::byte(h[i / 4] as u64, 3 - i % 4);
         i += 1;
     }
     d

@@ -4,9 +4,6 @@ use libc::STDOUT_FILENO;
 // At most so many captures are tried.
 const MOST: usize = 1000;
 
-// The places for pages that are lent.
-const PLACES: usize = 4096;
-
 // The output for the capture of a name.
 fn stored(path: &[u8]) {
     let fd = os::open_read(path);
@@ -14,10 +11,14 @@ fn stored(path: &[u8]) {
         os::fail(path);
         return;
     }
-    let mut pages = [0u64; PLACES];
-    let a = capture_io::check(fd, &mut pages);
+    let mut buffer = [0u8; capture::INPUT];
+    let mut pages = [0u64; capture::PLACES];
+    let mut text = [0u8; capture::OUTPUT];
+    let n = capture_io::read_whole(fd, &mut buffer);
     libc::close(fd);
-    capture_io::print(STDOUT_FILENO, a, &pages);
+    let a = capture::check(&buffer[..n], &mut pages);
+    let len = capture::output(a, &pages, &mut text);
+    io::write_all(STDOUT_FILENO, &text[..len]);
 }
 
 // The capture that an argument names; whether there is such an argument.

@@ -10,7 +10,7 @@ mod lists;
 mod module;
 mod walk;
 
-use crate::{capture, Parts, Platform, MOST_HEAP, MOST_PAGES, MOST_WINDOW};
+use crate::{capture, Parts, Platform, HIGHEST_END, MOST_HEAP, MOST_PAGES, MOST_WINDOW, PAGE_SIZE};
 
 /// The place that a refusal speaks of.
 #[derive(Clone, Debug, PartialEq, Eq)]
@@ -115,11 +115,9 @@ fn hex(bytes: &[u8]) -> String {
     bytes.iter().map(|byte| format!("{byte:02x}")).collect()
 }
 
-const TOP: u128 = 1 << 52;
-
 fn limits(parts: &Parts, platform: &Platform) -> Step<()> {
     let base = platform.window_base;
-    need(base % 4096 == 0, 1, "window base of the platform", "a multiple of 4096 (0x1000)", format!("{base:#x}"))?;
+    need(base % PAGE_SIZE == 0, 1, "window base of the platform", "a multiple of 4096 (0x1000)", format!("{base:#x}"))?;
     most("window", parts.window.len(), MOST_WINDOW)?;
     most("heap", parts.heap.len(), MOST_HEAP)?;
     ends("window", base, parts.window.len() as u64, "window base", "its length")?;
@@ -135,10 +133,10 @@ fn most(name: &str, length: usize, limit: usize) -> Step<()> {
 fn ends(name: &str, base: u64, size: u64, base_name: &str, size_name: &str) -> Step<()> {
     let end = u128::from(base) + u128::from(size);
     need(
-        end <= TOP,
+        end <= u128::from(HIGHEST_END),
         1,
         format!("end of the {name}: {base_name} plus {size_name}"),
-        format!("at most 2^52 ({TOP:#x})"),
+        format!("at most 2^52 ({HIGHEST_END:#x})"),
         format!("{base:#x} + {size:#x} = {end:#x}"),
     )
 }
@@ -149,9 +147,9 @@ fn page_count(asked: &heap::OsSinitData, places: usize) -> Step<u64> {
     let place = asked.place("MLE Size", 16);
     let found = format!("{size} ({size:#x})");
     need(size != 0, 12, place.as_str(), "at least 4096, one page", found.as_str())?;
-    need(size % 4096 == 0, 12, place.as_str(), "a multiple of 4096 (0x1000)", found.as_str())?;
-    let count = size / 4096;
-    let expected = format!("at most {MOST_PAGES} pages, {} bytes", MOST_PAGES * 4096);
+    need(size % PAGE_SIZE == 0, 12, place.as_str(), "a multiple of 4096 (0x1000)", found.as_str())?;
+    let count = size / PAGE_SIZE;
+    let expected = format!("at most {MOST_PAGES} pages, {} bytes", MOST_PAGES as u64 * PAGE_SIZE);
     need(count <= MOST_PAGES as u64, 12, place, expected, format!("{found}, {count} pages"))?;
     need(
         count <= places as u64,

@@ -22,19 +22,12 @@
 pub mod capture;
 mod ffi;
 pub mod finding;
+mod limits;
 pub mod policy;
 pub mod refusals;
 
+pub use limits::*;
 use std::fmt;
-
-/// The most pages of an image. With as many places in the page list, 13 is never answered.
-pub const MOST_PAGES: usize = 4096;
-/// The most bytes of a memory window.
-pub const MOST_WINDOW: usize = 32 << 20;
-/// The most bytes of a TXT heap.
-pub const MOST_HEAP: usize = 1 << 20;
-/// The bytes of a policy record.
-pub const RECORD_LENGTH: usize = 70;
 
 /// What the launch will see, lent for reading.
 #[derive(Clone, Copy, Debug)]
@@ -80,7 +73,7 @@ impl Answer {
         if self.number != 0 {
             return Err(Refusal { number: self.number });
         }
-        let list = u8::try_from(self.list).ok().filter(|list| *list != 255);
+        let list = u8::try_from(self.list).ok().filter(|_| self.list != NO_LIST);
         Ok(Permission { pages: self.pages as usize, list, digest: self.digest })
     }
 }

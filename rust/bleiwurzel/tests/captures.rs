@@ -31,7 +31,7 @@ fn untouched_after(pages: &[u64], count: u32) -> bool {
 fn every_capture_has_its_output() {
     let expected = expected();
     let captures = captures();
-    assert!(captures.len() >= 200, "only {} captures", captures.len());
+    assert!(captures.len() >= 500, "only {} captures", captures.len());
     assert_eq!(captures.len(), expected.len(), "as many captures as expected outputs");
     for (name, bytes) in captures {
         let mut pages = vec![UNTOUCHED; MOST_PAGES];
@@ -87,7 +87,7 @@ fn the_digest_is_that_of_the_listed_pages() {
             let at = (page - platform.window_base) as usize;
             message.extend_from_slice(&parts.window[at..at + 4096]);
         }
-        assert_eq!(given.digest, digest_bench::plain::digest_in_parts(&message, 0), "{name}");
+        assert_eq!(given.digest, plain_sha256::digest_in_parts(&message, 0), "{name}");
     }
     assert!(permitted > 0, "no capture is permitted");
 }
@@ -107,4 +107,64 @@ fn captures_of_65_536_bytes_and_one_more() {
     bytes.push(0);
     put(&mut bytes, 59, more.window.len() as u64, 4);
     assert_eq!((number(&bytes), found(&bytes)), (30, 30), "all lengths are right, but it is too long");
+}
+
+/// What is changed in a capture that is permitted, and the number that is answered then.
+#[test]
+fn heads_and_lengths() {
+    let image = image(&Shape::default());
+    let good = capture::make(&image.parts(), &image.platform).expect("a capture");
+    let cases: [(&str, fn(&mut Vec<u8>), u32); 17] = [
+        ("nothing", |_| (), 0),
+        ("the mark's first byte", |c| c[0] = b'l', 30),
+        ("the mark's last byte", |c| c[2] = b'D', 30),
+        ("version 0", |c| put(c, 3, 0, 2), 30),
+        ("version 2", |c| put(c, 3, 2, 2), 30),
+        ("version 0x0101", |c| put(c, 3, 0x0101, 2), 30),
+        ("version 0x0100", |c| put(c, 3, 0x0100, 2), 30),
+        ("a byte behind the parts", |c| c.push(0), 30),
+        ("the last byte gone", |c| c.truncate(c.len() - 1), 30),
+        ("a window of 2^32 - 1 bytes", |c| put(c, 59, 0xffff_ffff, 4), 30),
+        ("a window 1 byte shorter", |c| lengthen(c, 59, -1), 30),
+        ("a window 1 byte longer", |c| lengthen(c, 59, 1), 30),
+        (
+            "a window longer and a heap shorter by 1 byte",
+            |c| {
+                lengthen(c, 59, 1);
+                lengthen(c, 63, -1);
+            },
+            2,
+        ),
+        (
+            "lengths whose sum wraps at 2^32 to the right one",
+            |c| {
+                lengthen(c, 59, 1 << 31);
+                lengthen(c, 63, 1 << 31);
+            },
+            30,
+        ),
+        (
+            "75 bytes with lengths of 0",
+            |c| {
+                c.truncate(75);
+                c[59..75].fill(0);
+            },
+            2,
+        ),
+        ("74 bytes", |c| c.truncate(74), 30),
+        ("no bytes", |c| c.clear(), 30),
+    ];
+    for (name, change, number) in cases {
+        let mut bytes = good.clone();
+        change(&mut bytes);
+        let found = finding::first_in_capture(&bytes, MOST_PAGES).map_or(0, |finding| finding.number);
+        let given = answer_capture(&bytes, &mut vec![0; MOST_PAGES]).number;
+        assert_eq!((given, found), (number, number), "{name}");
+    }
+}
+
+/// Adds to a length in a capture's head.
+fn lengthen(capture: &mut [u8], at: usize, more: i64) {
+    let length = u32::from_le_bytes([capture[at], capture[at + 1], capture[at + 2], capture[at + 3]]);
+    put(capture, at, (i64::from(length) + more) as u64, 4);
 }

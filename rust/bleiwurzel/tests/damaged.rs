@@ -5,7 +5,7 @@ mod common;
 
 use bleiwurzel::{answer, answer_capture, finding, Answer, Platform, MOST_HEAP, MOST_PAGES, MOST_WINDOW};
 use common::*;
-use digest_bench::plain::digest_in_parts;
+use plain_sha256::digest_in_parts;
 use std::collections::BTreeMap;
 
 /// xorshift64*, with a fixed seed.
@@ -91,7 +91,7 @@ fn place_in_window(dice: &mut Dice, image: &Image) -> usize {
         4 => table * PAGE + dice.below(PAGE),
         5 => image.content * PAGE + dice.below(56),
         6 => {
-            let behind = (image.content + image.count) * PAGE;
+            let behind = (image.content + image.listed.len()) * PAGE;
             behind + dice.below((image.window.len() - behind).clamp(1, 400))
         }
         _ => dice.below(image.window.len()),
@@ -136,7 +136,7 @@ fn damage_image(name: &str, mut image: Image, times: usize, seed: u64, counts: &
                     damages[1].hit(&mut dice, &mut image.heap, at);
                 }
                 7 | 8 => {
-                    let at = if dice.below(2) == 0 { dice.below(128) } else { 644 + dice.below(124) };
+                    let at = if dice.below(2) == 0 { dice.below(ENTRY + 16) } else { INFORMATION + dice.below(44) };
                     damages[2].hit(&mut dice, &mut image.sinit, at);
                 }
                 9 | 10 => {
@@ -168,7 +168,7 @@ fn damage_image(name: &str, mut image: Image, times: usize, seed: u64, counts: &
 
 fn listed(shape: &Shape) -> Image {
     let image = image(shape);
-    let digest = digest_in_parts(image.bytes(), 0);
+    let digest = digest_in_parts(&image.bytes(), 0);
     let other = list(&[launch(0, &[[1; 32]]), element(3, &[9; 20])]);
     with_lists(&image, &[other, list(&[launch(2, &[[3; 32], digest])])])
 }

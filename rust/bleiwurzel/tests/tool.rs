@@ -149,8 +149,8 @@ fn parts_as_files() {
     let words = written(&folder, &image);
     let ran = run_with(&["check"], &words, &[]);
     assert_eq!(ran.status, OK, "{}{}", ran.out, ran.err);
-    let last = image.page(699) + 4095;
-    assert!(ran.out.contains(&format!("{:#018x} to {last:#018x}  700 pages\n", image.page(0))), "{}", ran.out);
+    let last = image.listed[699] + 4095;
+    assert!(ran.out.contains(&format!("{:#018x} to {last:#018x}  700 pages\n", image.listed[0])), "{}", ran.out);
     let ran = run_with(&["check"], &words, &["--dpr-size", "0"]);
     assert_eq!(ran.status, REFUSED);
     assert!(ran.out.starts_with("refused 20, not protected\n"), "a flag counts more than the file: {}", ran.out);
@@ -163,7 +163,7 @@ fn the_platform_by_flags_alone() {
     let folder = folder("the_platform_by_flags_alone");
     let words = written(&folder, &image(&Shape::default()));
     let flags = "--window-base 1048576 --heap-base 0x10000000 --sinit-base 0x20000000 --dpr-base 0x100000 --dpr-size 0x4000000 \
-                 --acram-capacity 32768 --vendor 0x8086 --device 0xb002 --revision 1";
+                 --acram-capacity 32768 --vendor 0x8086 --device 0xb002 --revision 5";
     let flags: Vec<&str> = flags.split_whitespace().collect();
     assert_eq!(run_with(&["check"], &words[..8], &flags).status, OK);
     let ran = run_with(&["check"], &words[..8], &flags[..16]);
@@ -185,7 +185,7 @@ fn files_over_their_limits() {
     let cases: [(&str, &[u8], usize, u32); 4] = [
         ("window.bin", &image.window, MOST_WINDOW, 1),
         ("heap.bin", &image.heap, MOST_HEAP, 1),
-        ("sinit.bin", &image.sinit, 0x8000, 6),
+        ("sinit.bin", &image.sinit, 0x2_0000, 6),
         ("record.bin", &image.record, 70, 23),
     ];
     for (name, bytes, limit, number) in cases {

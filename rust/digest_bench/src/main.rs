@@ -4,7 +4,6 @@
 //! With `--at-most R` it fails where the proved digest is slower than R times the plain one. For that the median of the ratios of
 //! neighbouring runs counts, which another program on the machine changes least.
 
-use digest_bench::{plain, proved};
 use std::time::{Duration, Instant};
 
 const SIZE: usize = 16 << 20;
@@ -24,8 +23,8 @@ fn compare(name: &str, message: &[u8], part: usize) -> f64 {
     let mut best = [Duration::MAX; 2];
     let mut ratios = Vec::with_capacity(RUNS);
     for _ in 0..RUNS {
-        let (ours, our_digest) = timed(proved::digest_in_parts, message, part);
-        let (theirs, their_digest) = timed(plain::digest_in_parts, message, part);
+        let (ours, our_digest) = timed(bench_exports::digest_in_parts, message, part);
+        let (theirs, their_digest) = timed(plain_sha256::digest_in_parts, message, part);
         assert_eq!(our_digest, their_digest, "the two digests differ");
         best = [best[0].min(ours), best[1].min(theirs)];
         ratios.push(ours.as_secs_f64() / theirs.as_secs_f64());

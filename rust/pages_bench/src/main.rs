@@ -5,9 +5,7 @@
 //! neighbouring runs counts, which another program on the machine changes least.
 
 mod image;
-mod proved;
 
-use digest_bench::plain;
 use image::{BASE, COUNT, FIRST};
 use std::time::{Duration, Instant};
 
@@ -19,7 +17,7 @@ fn median_of(mut values: Vec<f64>) -> f64 {
 }
 
 fn check(window: &[u8], digest: [u8; 32], pages: &[u64]) {
-    assert_eq!(digest, plain::digest_in_parts(image::content(window), 0), "the digest is not that of the pages");
+    assert_eq!(digest, plain_sha256::digest_in_parts(image::content(window), 0), "the digest is not that of the pages");
     for (k, page) in pages.iter().enumerate() {
         let expected = if k < COUNT { image::address_of(k) } else { 0 };
         assert_eq!(*page, expected, "place {k} of the page list");
@@ -39,12 +37,12 @@ fn main() {
     for run in 0..RUNS {
         let mut pages = vec![0u64; COUNT + 1];
         let start = Instant::now();
-        let digest = proved::digest_of_pages(&window, BASE, FIRST, COUNT as u32);
+        let digest = bench_exports::digest_of_pages(&window, BASE, FIRST, COUNT as u32);
         let hashed = start.elapsed();
         let start = Instant::now();
-        let walked = proved::walk(&window, BASE);
+        let walked = bench_exports::walk(&window, BASE);
         let walk = start.elapsed();
-        proved::page_list(&window, BASE, FIRST, COUNT as u32, &mut pages);
+        bench_exports::page_list(&window, BASE, FIRST, COUNT as u32, &mut pages);
         let work = start.elapsed();
         assert_eq!(walked, (0, FIRST, COUNT as u32), "the walk's number, first page and count");
         if run == 0 {

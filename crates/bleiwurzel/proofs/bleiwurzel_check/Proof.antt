@@ -1,8 +1,6 @@
 -- `bleiwurzel_check` meets its contract: the answer of the check, number by number.
-use mathlib.Core.Path.{ap}
-use Rattle.rules.proofs.Tests.{_&_}
-use Rattle.bleiwurzel.specs.Scalars.{countsOf}
 use borrow.Author.Needs.{needs}
+use Rattle.bleiwurzel.proofs.Answers.{as-given}
 use Rattle.bleiwurzel.proofs.bleiwurzel_check.Statement.{statement}
 use Rattle.bleiwurzel.proofs.bleiwurzel_check.Tie as tie
 
@@ -15,8 +13,7 @@ same-length c = search needs
 returns : tie.Need-returns
 returns c =
     let called = c .before .before .before .check in
-    let e = called .ensures .0 in
-    ap (λ a. a .number) e & called .ensures .1 & ap countsOf e & ap (λ a. a .digest) e
+    as-given (called .result) _ _ _ (called .ensures .0) (called .ensures .1)
 
 pub bleiwurzel-check-spec : {M : Type 1} → statement M
 bleiwurzel-check-spec = tie.close (tie.spec check-requires same-length returns)

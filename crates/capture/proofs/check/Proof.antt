@@ -9,13 +9,13 @@ use Rattle.capture.proofs.check.Tie as tie
 holds-requires : tie.Need-holds-requires
 holds-requires c κs = search needs
 
-no-capture-requires : tie.Need-no-capture-requires
-no-capture-requires c κs = search needs
+refused-requires : tie.Need-refused-requires
+refused-requires c κs = search needs
 
 returns : tie.Need-returns
 returns c =
     let r = no-capture _ _ (c .before .before .holds .ensures) (c .before .if1 .taken) _ _ in
-    (c .no-capture .ensures ∙ r .0, r .1)
+    (c .refused .ensures ∙ r .0, r .1)
 
 offsets-in-requires : tie.Need-offsets-in-requires
 offsets-in-requires c κs = search needs
@@ -85,7 +85,7 @@ check-spec =
     tie.close
     (tie.spec
     holds-requires
-    no-capture-requires
+    refused-requires
     returns
     offsets-in-requires
     sub-check

@@ -19,8 +19,8 @@ add-sinit c = search needs
 length-requires-3 : tie.Need-length-requires-3
 length-requires-3 c κs = search needs
 
-add-policy : tie.Need-add-policy
-add-policy c = search needs
+add-policy-record : tie.Need-add-policy-record
+add-policy-record c = search needs
 
 length-requires-4 : tie.Need-length-requires-4
 length-requires-4 c κs = search needs
@@ -46,7 +46,7 @@ offsets-in-spec =
     length-requires-2
     add-sinit
     length-requires-3
-    add-policy
+    add-policy-record
     length-requires-4
     add-end
     returns)

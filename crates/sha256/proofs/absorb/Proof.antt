@@ -1,10 +1,9 @@
 -- By whether the part fills the block: the laws say what the state then is.
-use mathlib.Core.Path.{_∙_, ap, refl, sym}
-use mathlib.Core.List.{List}
-use Prim.Native.Nat.{ℕ, _-_, _%_}
+use mathlib.Core.Path.{sym}
+use Prim.Native.Nat.{_-_, _%_}
 use native.Mathlib.Omega.{arith}
-use lib.ListN.{length}
-use lib.Seq.{length-take-le, paste}
+use lib.ListN.{length, take, drop}
+use lib.Seq.{length-take-le}
 use Rattle.sha256.proofs.Hashing.{small, large, to-end}
 use borrow.Author.Needs.{needs}
 use Rattle.sha256.proofs.absorb.Statement.{statement}
@@ -33,23 +32,26 @@ filled-requires-2 c κs =
     let a = c .before .before .before .before .before .before .before .args in
     omega (arith, length-take-le (64 - a .s .total % 64) (a .part .now) (c .before .if1 .left))
 
-slice-aggregate-blocks : tie.Need-slice-aggregate-blocks
-slice-aggregate-blocks c = search needs
+slice-aggregate-hash-blocks : tie.Need-slice-aggregate-hash-blocks
+slice-aggregate-hash-blocks c = search needs
 
-blocks-requires : tie.Need-blocks-requires
-blocks-requires c κs = search needs
+hash-blocks-requires : tie.Need-hash-blocks-requires
+hash-blocks-requires c κs = search needs
 
-sub-n : tie.Need-sub-n
-sub-n c = search needs
+sub-behind : tie.Need-sub-behind
+sub-behind c = search needs
 
-blocks-requires-2 : tie.Need-blocks-requires-2
-blocks-requires-2 c κs = search needs
+part-behind-start : tie.Need-part-behind-start
+part-behind-start c = search needs
+
+part-behind-end : tie.Need-part-behind-end
+part-behind-end c = search needs
+
+hash-blocks-requires-2 : tie.Need-hash-blocks-requires-2
+hash-blocks-requires-2 c κs = search needs
 
 mul-at : tie.Need-mul-at
 mul-at c = search needs
-
-add-at : tie.Need-add-at
-add-at c = search needs
 
 sub-filled : tie.Need-sub-filled
 sub-filled c = search needs
@@ -65,12 +67,13 @@ filled-requires-3 c κs = search needs
 
 returns-2 : tie.Need-returns-2
 returns-2 c =
-    let a = c .before .before .before .before .before .before .before .before .before .before .before .before .before .args in
-    let sum = c .before .before .before .before .before .before .before .before .before .before .wrapping-add-u64 in
-    let b = c .before .before .before .before .before .filled2 in
-    large (a .s) (a .part .now) (b .result) (sum .result) (search needs) (c .before .before .before .before .before .before .before .if1 .left) (b .ensures) (c .before .before .before .blocks2 .result) (c .before .before .blocks3 .result)
-    (c .filled3 .result) _ (c .before .before .before .blocks2 .ensures) refl (c .before .before .blocks3 .ensures)
-    (c .filled3 .ensures ∙ ap (λ (x : List ℕ). paste (b .result) 0 x (length x)) (to-end _ (a .part .now))) (sum .ensures)
+    let a = c .before .before .before .before .before .before .before .before .before .before .before .before .before .before .args in
+    let sum = c .before .before .before .before .before .before .before .before .before .before .before .wrapping-add-u64 in
+    let b = c .before .before .before .before .before .before .filled2 in
+    let p = a .part .now in
+    let room = 64 - a .s .total % 64 in
+    large (a .s) p (b .result) (sum .result) (search needs) (c .before .before .before .before .before .before .before .before .if1 .left) (b .ensures)
+    _ _ _ _ _ (c .before .before .before .before .hash-blocks .ensures) (to-end room p) (c .before .before .hash-blocks2 .ensures) (to-end _ (take (length p - room) (drop room p))) (c .filled3 .ensures) (sum .ensures)
 
 pub absorb-spec : {M : Type 1} → statement M
 absorb-spec =
@@ -82,12 +85,13 @@ absorb-spec =
     returns
     slice-aggregate-filled
     filled-requires-2
-    slice-aggregate-blocks
-    blocks-requires
-    sub-n
-    blocks-requires-2
+    slice-aggregate-hash-blocks
+    hash-blocks-requires
+    sub-behind
+    part-behind-start
+    part-behind-end
+    hash-blocks-requires-2
     mul-at
-    add-at
     sub-filled
     part-filled-start
     part-filled-end

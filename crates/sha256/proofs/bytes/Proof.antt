@@ -20,17 +20,20 @@ abbrev μ-loop : tie.MeasureT-loop
 loop-holds : tie.Need-loop-holds Inv-loop μ-loop
 loop-holds c = (omega arith, search needs, refl, refl)
 
-mul-byte32 : tie.Need-mul-byte32 Inv-loop μ-loop
-mul-byte32 c = omega arith
+mul-byte : tie.Need-mul-byte Inv-loop μ-loop
+mul-byte c = omega arith
 
-array-read-byte32 : tie.Need-array-read-byte32 Inv-loop μ-loop
-array-read-byte32 c = omega arith
+array-read-byte : tie.Need-array-read-byte Inv-loop μ-loop
+array-read-byte c = omega arith
 
-sub-byte32 : tie.Need-sub-byte32 Inv-loop μ-loop
-sub-byte32 c = omega arith
+cast-byte : tie.Need-cast-byte Inv-loop μ-loop
+cast-byte c = search needs
 
-byte32-requires : tie.Need-byte32-requires Inv-loop μ-loop
-byte32-requires c κs = omega arith
+sub-byte : tie.Need-sub-byte Inv-loop μ-loop
+sub-byte c = omega arith
+
+byte-requires : tie.Need-byte-requires Inv-loop μ-loop
+byte-requires c κs = omega arith
 
 array-write-d : tie.Need-array-write-d Inv-loop μ-loop
 array-write-d c = omega arith
@@ -49,8 +52,8 @@ loop-again c =
       omega arith,
       l .inv .1,
       simp length-set (l .inv .2),
-      fill-step (l .d) (digestOf h) (l .i) (c .byte32 .result) (omega arith) (omega arith) (l .inv .3)
-          (c .byte32 .ensures ∙ sym (getD-digest h (l .i) (omega arith))),
+      fill-step (l .d) (digestOf h) (l .i) (c .byte .result) (omega arith) (omega arith) (l .inv .3)
+          (c .byte .ensures ∙ sym (getD-digest h (l .i) (omega arith))),
     )
 
 returns : tie.Need-returns Inv-loop μ-loop
@@ -67,10 +70,11 @@ bytes-spec =
     Inv-loop
     μ-loop
     loop-holds
-    mul-byte32
-    array-read-byte32
-    sub-byte32
-    byte32-requires
+    mul-byte
+    array-read-byte
+    cast-byte
+    sub-byte
+    byte-requires
     array-write-d
     add-i
     loop-less

@@ -5,7 +5,8 @@ use mathlib.Core.List.{List, _++_}
 use Prim.Native.Nat.{ℕ}
 use lib.ListN.{length}
 use lib.Seq.{length-take-le}
-use Rattle.sha256.specs.Message.{hashBlocks, digestOf}
+use Rattle.sha256_block.specs.Block.{hashBlocks}
+use Rattle.sha256.specs.Message.{digestOf}
 use Rattle.sha256.specs.State.{pending, finishOf}
 use borrow.Author.Needs.{needs}
 use Rattle.sha256.proofs.finish.Statement.{statement}

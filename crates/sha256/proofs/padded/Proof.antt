@@ -27,11 +27,11 @@ array-write-p c = omega arith
 loop-holds : tie.Need-loop-holds Inv-loop μ-loop
 loop-holds c = (omega arith, paste-zero (0x80 ∷ replicate 71 0) ((119 - c .args .total % 64) % 64 + 1) (bigEndian 8 (c .args .total * 8 % 2 ^ 64)))
 
-sub-byte64 : tie.Need-sub-byte64 Inv-loop μ-loop
-sub-byte64 c = omega arith
+sub-byte : tie.Need-sub-byte Inv-loop μ-loop
+sub-byte c = omega arith
 
-byte64-requires : tie.Need-byte64-requires Inv-loop μ-loop
-byte64-requires c κs = omega arith
+byte-requires : tie.Need-byte-requires Inv-loop μ-loop
+byte-requires c κs = omega arith
 
 add-p : tie.Need-add-p Inv-loop μ-loop
 add-p c = omega arith
@@ -57,7 +57,7 @@ loop-again c =
     let a : List ℕ = 0x80 ∷ replicate 71 0 in
     let f : length b ≡ 8 = length-big 8 (n * 8 % 2 ^ 64) in (
       omega arith,
-      ap₂ (λ (x : List ℕ) (y : ℕ). set x (z + 1 + l .k) y) (l .inv .1) (c .byte64 .ensures ∙ sym (getD-big 8 (n * 8 % 2 ^ 64) (l .k) (omega arith)))
+      ap₂ (λ (x : List ℕ) (y : ℕ). set x (z + 1 + l .k) y) (l .inv .1) (c .byte .ensures ∙ sym (getD-big 8 (n * 8 % 2 ^ 64) (l .k) (omega arith)))
           ∙ paste-suc a (z + 1) b (l .k) 0 (omega arith) (omega arith)
           ∙ ap (paste a (z + 1) b) (sym (add-one (l .k))),
     )
@@ -77,8 +77,8 @@ padded-spec =
     sub-z
     array-write-p
     loop-holds
-    sub-byte64
-    byte64-requires
+    sub-byte
+    byte-requires
     add-p
     add-p-2
     array-write-p-2

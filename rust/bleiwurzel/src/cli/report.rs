@@ -4,14 +4,14 @@ use super::json::{hex, texts, Json};
 use super::wrap::{points, wrapped};
 use super::{Said, NO, YES};
 use bleiwurzel::finding::Finding;
-use bleiwurzel::{Permission, Refusal};
+use bleiwurzel::{Permission, Refusal, PAGE_SIZE};
 
 /// Pages that follow one another in memory as well as in linear order: the first byte, and how many.
 fn ranges(pages: &[u64]) -> Vec<(u64, u64)> {
     let mut ranges: Vec<(u64, u64)> = Vec::new();
     for page in pages {
         match ranges.last_mut() {
-            Some((first, count)) if *first + 4096 * *count == *page => *count += 1,
+            Some((first, count)) if *first + PAGE_SIZE * *count == *page => *count += 1,
             _ => ranges.push((*page, 1)),
         }
     }
@@ -39,7 +39,7 @@ pub fn permitted(permission: &Permission, list: &[u64], json: bool) -> Said {
 fn permitted_text(permission: &Permission, ranges: &[(u64, u64)]) -> String {
     let mut text = format!("permitted\n\n  image   {}, in linear order\n", pages(permission.pages as u64));
     for (first, count) in ranges {
-        text.push_str(&format!("          {first:#018x} to {:#018x}  {}\n", first + 4096 * count - 1, pages(*count)));
+        text.push_str(&format!("          {first:#018x} to {:#018x}  {}\n", first + PAGE_SIZE * count - 1, pages(*count)));
     }
     match permission.list {
         Some(list) => text.push_str(&format!("  list    {list}, the lowest that permits, counted from 0\n")),
@@ -51,7 +51,7 @@ fn permitted_text(permission: &Permission, ranges: &[(u64, u64)]) -> String {
 
 fn permitted_json(permission: &Permission, ranges: &[(u64, u64)]) -> Json {
     let range = |(first, count): &(u64, u64)| {
-        Json::Object(vec![("first", hex(*first)), ("last", hex(first + 4096 * count - 1)), ("pages", Json::from(*count))])
+        Json::Object(vec![("first", hex(*first)), ("last", hex(first + PAGE_SIZE * count - 1)), ("pages", Json::from(*count))])
     };
     Json::Object(vec![
         ("answer", Json::from("permitted")),

@@ -1,6 +1,7 @@
 //! Rules 2 to 5: the parts of the heap, OsSinitData, its elements, the PMRs.
 
-use super::{fail, field, need, number, Step, TOP};
+use super::{fail, field, need, number, Step};
+use crate::HIGHEST_END;
 
 /// A range of memory as base and size.
 #[derive(Clone, Copy)]
@@ -124,5 +125,5 @@ fn protected(asked: &OsSinitData) -> Step<()> {
     let place = asked.place("PMR high base", 48);
     need(high.base >= 1 << 32, 5, place, "at or above 2^32 (0x100000000)", format!("{:#x}", high.base))?;
     let place = asked.place("PMR high base and size", 48);
-    need(high.end() <= TOP, 5, place, format!("an end at or below 2^52 ({TOP:#x})"), shown(high))
+    need(high.end() <= u128::from(HIGHEST_END), 5, place, format!("an end at or below 2^52 ({HIGHEST_END:#x})"), shown(high))
 }

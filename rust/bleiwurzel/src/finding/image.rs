@@ -4,6 +4,7 @@ use super::heap::OsSinitData;
 use super::module::Module;
 use super::walk::Mapped;
 use super::{bytes_of, fail, field, need, spaced, Step};
+use crate::PAGE_SIZE;
 
 const UUID: [u8; 16] = [0x5a, 0xac, 0x82, 0x90, 0x6f, 0x47, 0xa7, 0x74, 0x0f, 0x5c, 0x55, 0xa2, 0xcb, 0x51, 0xb6, 0x42];
 
@@ -14,18 +15,18 @@ pub fn counted(mapped: &Mapped, count: u64) -> Step<()> {
 }
 
 pub fn header(window: &[u8], window_base: u64, asked: &OsSinitData, module: &Module, mapped: &Mapped) -> Step<()> {
-    let begin = mapped.first * 4096;
-    let end = begin + 4096 * mapped.pages.len() as u64;
+    let begin = mapped.first * PAGE_SIZE;
+    let end = begin + PAGE_SIZE * mapped.pages.len() as u64;
     let range = format!("{begin:#x} to {:#x}", end - 1);
     let base = asked.header;
     let of_base = asked.place("MLE header base", 24);
     if base < begin || base >= end {
         return fail(22, of_base, format!("a linear address in the mapped range, {range}"), format!("{base:#x}"));
     }
-    let offset = base % 4096;
+    let offset = base % PAGE_SIZE;
     let found = format!("{base:#x}, which is {offset} bytes into its page");
     need(offset <= 4044, 22, of_base, "at most 4044 bytes into its page, so that 52 bytes fit", found)?;
-    let page = mapped.pages[((base - begin) / 4096) as usize];
+    let page = mapped.pages[((base - begin) / PAGE_SIZE) as usize];
     let at = page - window_base + offset;
     let place = |name: &str, o: u64| {
         format!("{name}, offset {o} in the MLE header (physical {:#x}, window offset {:#x})", page + offset + o, at + o)
@@ -53,7 +54,7 @@ pub fn header(window: &[u8], window_base: u64, asked: &OsSinitData, module: &Mod
 
 /// SHA-256 over the pages in linear order.
 pub fn digest(window: &[u8], window_base: u64, mapped: &Mapped) -> [u8; 32] {
-    let mut message = Vec::with_capacity(mapped.pages.len() * 4096);
-    mapped.pages.iter().for_each(|page| message.extend_from_slice(bytes_of(window, page - window_base, 4096)));
+    let mut message = Vec::with_capacity(mapped.pages.len() * PAGE_SIZE as usize);
+    mapped.pages.iter().for_each(|page| message.extend_from_slice(bytes_of(window, page - window_base, PAGE_SIZE as usize)));
     crate::sha256(&message)
 }

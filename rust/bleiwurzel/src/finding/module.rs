@@ -1,7 +1,7 @@
 //! Rules 6 to 11: the SINIT module's place, header, GDT, information table and chipset list.
 
 use super::{bytes_of, fail, field, heap, need, number, spaced, Finding, Step};
-use crate::Platform;
+use crate::{Platform, MOST_CHIPSETS, PAGE_SIZE};
 
 const UUID: [u8; 16] = [0xaa, 0x3a, 0xc0, 0x7f, 0xa7, 0x46, 0xdb, 0x18, 0x2e, 0xac, 0x69, 0x8f, 0x8d, 0x41, 0x7f, 0x5a];
 
@@ -42,7 +42,7 @@ fn place(sinit: &[u8], platform: &Platform) -> Step<()> {
     let length = sinit.len() as u64;
     let bytes = format!("{length} bytes");
     let of_module = "length of the SINIT module";
-    need(base % 4096 == 0, 6, "SINIT base of the platform", "a multiple of 4096 (0x1000)", format!("{base:#x}"))?;
+    need(base % PAGE_SIZE == 0, 6, "SINIT base of the platform", "a multiple of 4096 (0x1000)", format!("{base:#x}"))?;
     let capacity = platform.acram_capacity;
     let expected = format!("at most {capacity} bytes, the platform's ACRAM capacity");
     let more = if length == capacity.saturating_add(1) { " or more" } else { "" };
@@ -110,7 +110,7 @@ fn information(sinit: &[u8], table: u64) -> Step<()> {
         }
     };
     let at = format!("count of the chipset list (module offset {list:#x})");
-    need(count <= 64, 9, at.as_str(), "at most 64", count.to_string())?;
+    need(count <= MOST_CHIPSETS, 9, at.as_str(), format!("at most {MOST_CHIPSETS}"), count.to_string())?;
     let end = list + 4 + 16 * count;
     need(
         end <= length,

@@ -2,11 +2,9 @@
 
 use super::heap::{OsSinitData, Range};
 use super::{field, need, Step};
-use crate::{Parts, Platform};
+use crate::{Parts, Platform, MOST_TABLES, PAGE_SIZE};
 
-const PAGE: u64 = 4096;
 const ADDRESS: u64 = 0x000f_ffff_ffff_f000;
-const MOST_TABLES: usize = 16;
 
 /// Ranges of memory that the walk asks about.
 pub struct Memory {
@@ -93,7 +91,7 @@ struct Walk<'a> {
 
 pub fn walk(window: &[u8], memory: &Memory, base: u64) -> Step<Mapped> {
     let place = memory.base_place.as_str();
-    need(base % PAGE == 0, 14, place, "a multiple of 4096 (0x1000)", format!("{base:#x}"))?;
+    need(base % PAGE_SIZE == 0, 14, place, "a multiple of 4096 (0x1000)", format!("{base:#x}"))?;
     let mut walk = Walk { window, memory, last: base, tables: 1 };
     walk.inside(base, || place.to_string())?;
     walk.clear(base, || place.to_string())?;
@@ -126,7 +124,13 @@ impl Walk<'_> {
                     self.protected(address, place)?;
                 } else {
                     let found = format!("{address:#x}, table page {}", self.tables + 1);
-                    need(self.tables < MOST_TABLES, 18, place(), "at most 16 table pages, the base counted", found)?;
+                    need(
+                        self.tables < MOST_TABLES,
+                        18,
+                        place(),
+                        format!("at most {MOST_TABLES} table pages, the base counted"),
+                        found,
+                    )?;
                     self.tables += 1;
                 }
                 self.last = address;
@@ -139,7 +143,7 @@ impl Walk<'_> {
 
     fn place(&self, level: Level, table: &Table, index: u64, linear: u64) -> String {
         let at = table.address + 8 * index;
-        let mapped = if level == Level::Page { format!(", which maps linear {:#x}", linear * PAGE) } else { String::new() };
+        let mapped = if level == Level::Page { format!(", which maps linear {:#x}", linear * PAGE_SIZE) } else { String::new() };
         let offset = at - self.memory.window.base;
         format!(
             "entry {index} of the {} at {:#x} (physical {at:#x}, window offset {offset:#x}){mapped}",
@@ -150,7 +154,7 @@ impl Walk<'_> {
 
     fn inside(&self, address: u64, place: impl Fn() -> String) -> Step<()> {
         let window = &self.memory.window;
-        let fits = address >= window.base && u128::from(address) + u128::from(PAGE) <= window.end();
+        let fits = address >= window.base && u128::from(address) + u128::from(PAGE_SIZE) <= window.end();
         if fits {
             return Ok(());
         }
@@ -173,24 +177,24 @@ impl Walk<'_> {
     fn clear(&self, address: u64, place: impl Fn() -> String) -> Step<()> {
         for (name, range) in &self.memory.forbidden {
             let begin = u128::from(address.max(range.base));
-            let end = (u128::from(address) + u128::from(PAGE)).min(range.end());
+            let end = (u128::from(address) + u128::from(PAGE_SIZE)).min(range.end());
             if begin < end {
                 let expected = format!("clear of {name}, {}", shown(range));
-                return need(false, 17, place(), expected, format!("{address:#x} to {:#x}", address + PAGE - 1));
+                return need(false, 17, place(), expected, format!("{address:#x} to {:#x}", address + PAGE_SIZE - 1));
             }
         }
         Ok(())
     }
 
     fn protected(&self, address: u64, place: impl Fn() -> String) -> Step<()> {
-        let end = u128::from(address) + u128::from(PAGE);
+        let end = u128::from(address) + u128::from(PAGE_SIZE);
         let holds = |range: &Range| address >= range.base && end <= range.end();
         if self.memory.regions.iter().any(|(_, range)| holds(range)) {
             return Ok(());
         }
         let regions: Vec<String> = self.memory.regions.iter().map(|(name, range)| format!("{name} ({})", shown(range))).collect();
         let expected = format!("wholly in one of {}", regions.join(", "));
-        need(false, 20, place(), expected, format!("page {address:#x} to {:#x}", address + PAGE - 1))
+        need(false, 20, place(), expected, format!("page {address:#x} to {:#x}", address + PAGE_SIZE - 1))
     }
 }
 
@@ -220,6 +224,7 @@ fn follows(before: Option<&Table>, linear: u64, place: impl Fn() -> String) -> S
     if linear == before.first + 1 {
         return Ok(());
     }
-    let expected = format!("the next page at linear {:#x}, behind {:#x}", (before.first + 1) * PAGE, before.first * PAGE);
-    need(false, 19, place(), expected, format!("linear {:#x}", linear * PAGE))
+    let expected =
+        format!("the next page at linear {:#x}, behind {:#x}", (before.first + 1) * PAGE_SIZE, before.first * PAGE_SIZE);
+    need(false, 19, place(), expected, format!("linear {:#x}", linear * PAGE_SIZE))
 }

@@ -8,22 +8,22 @@ use borrow.Author.Tests.{not-true, not-false}
 use lib.ListN.{length}
 use Rattle.policy.specs.Grammar.{Element}
 use Rattle.policy.proofs.Standing as kinds
+use Rattle.policy.proofs.Walk.{Left, turn, onward, ended}
 use Rattle.decision.specs.Inner.{ElementsStand}
-use Rattle.decision.proofs.Walking.{Left, turn, onward, ended}
 use Rattle.decision.proofs.Judging.{Judging, judging-start, judging-end, fits, unjudged, judging-step}
 use borrow.Author.Needs.{needs}
 use Rattle.decision.proofs.permits.elements_permit.Statement.{statement}
 use Rattle.decision.proofs.permits.elements_permit.Tie as tie
 
 abbrev Inv-loop : tie.InvT-loop
-Inv-loop t start digest acm at₀ found₀ at found =
-    (es : List Element) → ElementsStand t start es → Left kinds.element t at (Judging digest acm es found)
+Inv-loop t start k at₀ found₀ at found =
+    (es : List Element) → ElementsStand t start es → Left kinds.element t at (Judging k es found)
 
 abbrev μ-loop : tie.MeasureT-loop
-μ-loop t start digest acm at₀ found₀ at found = length t - at
+μ-loop t start k at₀ found₀ at found = length t - at
 
 loop-holds : tie.Need-loop-holds Inv-loop μ-loop
-loop-holds c = λ es h. record { rest = es; valid = h .valid; stand = h .stand; kept = judging-start _ _ es }
+loop-holds c = λ es h. record { rest = es; valid = h .valid; stand = h .stand; kept = judging-start _ es }
 
 element-at-requires : tie.Need-element-at-requires Inv-loop μ-loop
 element-at-requires c κs = search needs
@@ -34,15 +34,15 @@ judged-requires c κs = search needs
 returns : tie.Need-returns Inv-loop μ-loop
 returns c = λ es stand.
     let l = c .before .before .before .before .loop in
-    let t = turn kinds.element _ _ _ (l .inv es stand) _ (c .before .before .before .loop-test .taken) (c .before .before .element-at .ensures) in
-    unjudged _ _ _ _ _ _ _ t _ (c .before .judged .ensures) (not-true _ (c .if1 .taken))
+    let t = turn kinds.element _ _ _ (l .inv es stand) _ (c .before .before .before .loop-test .taken) (c .before .before .element-at .ensures .0) in
+    unjudged _ _ _ _ _ _ t _ (c .before .judged .ensures) (not-true _ (c .if1 .taken))
 
 names-requires : tie.Need-names-requires Inv-loop μ-loop
 names-requires c κs =
     let l = c .before .before .before .before .loop in
     let p = c .before .before .before .before .before .before .pre in
-    let t = turn kinds.element _ _ _ (l .inv (p .0) (p .1)) _ (c .before .before .before .loop-test .taken) (c .before .before .element-at .ensures) in
-    fits _ _ _ _ _ _ _ t
+    let t = turn kinds.element _ _ _ (l .inv (p .0) (p .1)) _ (c .before .before .before .loop-test .taken) (c .before .before .element-at .ensures .0) in
+    fits _ _ _ _ _ _ t
 
 element-size-requires : tie.Need-element-size-requires Inv-loop μ-loop
 element-size-requires c κs = search needs
@@ -52,7 +52,7 @@ add-at c =
     let at-element = c .before .before .before .before .before in
     let l = at-element .before .before .loop in
     let p = at-element .before .before .before .before .pre in
-    let t = turn kinds.element _ _ _ (l .inv (p .0) (p .1)) _ (at-element .before .loop-test .taken) (at-element .element-at .ensures) in
+    let t = turn kinds.element _ _ _ (l .inv (p .0) (p .1)) _ (at-element .before .loop-test .taken) (at-element .element-at .ensures .0) in
     omega (arith, t .within, c .element-size .ensures)
 
 loop-less : tie.Need-loop-less Inv-loop μ-loop
@@ -60,20 +60,20 @@ loop-less c =
     let at-element = c .before .before .before .before .before in
     let l = at-element .before .before .loop in
     let p = at-element .before .before .before .before .pre in
-    let t = turn kinds.element _ _ _ (l .inv (p .0) (p .1)) _ (at-element .before .loop-test .taken) (at-element .element-at .ensures) in
+    let t = turn kinds.element _ _ _ (l .inv (p .0) (p .1)) _ (at-element .before .loop-test .taken) (at-element .element-at .ensures .0) in
     omega (arith, t .within, t .positive, c .element-size .ensures)
 
 loop-again : tie.Need-loop-again Inv-loop μ-loop
 loop-again c = λ es stand.
     let at-element = c .before .before .before .before .before in
     let l = at-element .before .before .loop in
-    let t = turn kinds.element _ _ _ (l .inv es stand) _ (at-element .before .loop-test .taken) (at-element .element-at .ensures) in
+    let t = turn kinds.element _ _ _ (l .inv es stand) _ (at-element .before .loop-test .taken) (at-element .element-at .ensures .0) in
     onward kinds.element _ _ _ _ _ t _ (c .element-size .ensures)
-    (judging-step _ _ _ _ _ _ _ t _ (c .before .before .before .before .judged .ensures) (not-false _ (c .before .before .before .if1 .left)) _ (c .before .before .names .ensures) _
+    (judging-step _ _ _ _ _ _ t _ (c .before .before .before .before .judged .ensures) (not-false _ (c .before .before .before .if1 .left)) _ (c .before .before .names .ensures) _
     (⊎-elim (λ w. rw (w .0 .taken) (w .1)) (λ w. rw (w .0 .left) (w .1)) (c .before .if2 .came)))
 
 returns-2 : tie.Need-returns-2 Inv-loop μ-loop
-returns-2 c = λ es stand. judging-end _ _ _ _ (ended kinds.element _ _ _ (c .before .loop .inv es stand) (c .loop-test .left))
+returns-2 c = λ es stand. judging-end _ _ _ (ended kinds.element _ _ _ (c .before .loop .inv es stand) (c .loop-test .left))
 
 pub elements-permit-spec : {M : Type 1} → statement M
 elements-permit-spec =

@@ -37,7 +37,7 @@ enum-told-2 c = search needs
 returns : tie.Need-returns
 returns c = λ x stands.
     let u = unsigned-list _ _ x stands _ _ _ _ _ (c .before .before .before .l .given .1) in
-    unsigned-permits _ _ x stands _ _ _ _ u _ (c .elements-permit .ensures (x .elements) (u .elements))
+    unsigned-permits _ _ x stands _ _ _ u _ (c .elements-permit .ensures (x .elements) (u .elements)) _
 
 returns-2 : tie.Need-returns-2
 returns-2 c = λ x stands. signed-list _ _ x stands _ _ _ (c .enum-told .given .1) refl

@@ -12,20 +12,20 @@ enum-known-e c = search needs
 returns : tie.Need-returns
 returns c =
     let a = c .before .before .before .before .before .args in
-    other-algorithm (a .digest .now) (a .t .now) (a .acm) _ _ _ _ _ _ _ _ (c .before .before .e .given .1) (c .if1 .taken)
+    other-algorithm (a .k) (a .t .now) _ _ _ _ _ _ _ _ (c .before .before .e .given .1) (c .if1 .taken)
 
 returns-2 : tie.Need-returns-2
 returns-2 c =
-    let a = c .before .before .before .before .before .before .args in
-    later-version (a .digest .now) (a .t .now) (a .acm) _ _ _ _ _ _ _ _ (c .before .before .before .e .given .1) (c .before .if1 .left) (c .if2 .taken)
+    let a = c .before .before .before .before .before .before .before .args in
+    later-version (a .k) (a .t .now) _ _ _ _ _ _ _ _ (c .before .before .before .before .e .given .1) (c .before .before .if1 .left) (c .if2 .taken)
 
 body-requires : tie.Need-body-requires
 body-requires c κs = search needs
 
 named-requires : tie.Need-named-requires
 named-requires c κs =
-    let at-start = c .before .before .before .before .before .before .before in
-    count-fits (at-start .args .digest .now) (at-start .args .t .now) (at-start .args .acm) _ _ _ _ _ _ _ _ (c .before .before .before .before .e .given .1) (at-start .pre)
+    let at-start = c .before .before .before .before .before .before .before .before .before .before in
+    count-fits (at-start .args .k) (at-start .args .t .now) _ _ _ _ _ _ _ _ (c .before .before .before .before .before .before .before .e .given .1) (at-start .pre)
 
 enum-told : tie.Need-enum-told
 enum-told c = search needs
@@ -38,22 +38,22 @@ enum-told-3 c = search needs
 
 returns-3 : tie.Need-returns-3
 returns-3 c =
-    let at-test = c .before .before in
-    let a = at-test .before .before .before .before .before .before .args in
-    asked (a .digest .now) (a .t .now) (a .acm) _ _ _ _ _ _ _ _ (at-test .before .before .before .e .given .1)
-    (at-test .before .if1 .left) (at-test .if2 .left) _ _ (c .before .body .ensures) (c .named .ensures)
+    let at-test = c .before .before .before .before in
+    let a = at-test .before .before .before .before .before .before .before .args in
+    asked (a .k) (a .t .now) _ _ _ _ _ _ _ _ (at-test .before .before .before .before .e .given .1)
+    (at-test .before .before .if1 .left) (at-test .if2 .left) _ _ (c .before .before .body .ensures) (c .named .ensures)
 
 returns-4 : tie.Need-returns-4
 unfolding names
 returns-4 c =
     let a = c .before .before .before .args in
-    other-case (a .digest .now) (a .t .now) (a .acm) (c .enum-told .given .1) refl
+    other-case (a .k) (a .t .now) (c .enum-told .given .1) refl
 
 returns-5 : tie.Need-returns-5
 unfolding names
 returns-5 c =
     let a = c .before .before .before .args in
-    other-case (a .digest .now) (a .t .now) (a .acm) (c .enum-told2 .given .1) refl
+    other-case (a .k) (a .t .now) (c .enum-told2 .given .1) refl
 
 returns-6 : tie.Need-returns-6
 returns-6 c = search needs

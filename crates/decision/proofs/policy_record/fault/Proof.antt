@@ -9,8 +9,8 @@ version-reached-requires c κs = search needs
 unless-requires : tie.Need-unless-requires
 unless-requires c κs = search needs
 
-worthy-requires : tie.Need-worthy-requires
-worthy-requires c κs = search needs
+worthy-or-allowed-requires : tie.Need-worthy-or-allowed-requires
+worthy-or-allowed-requires c κs = search needs
 
 unless-requires-2 : tie.Need-unless-requires-2
 unless-requires-2 c κs = search needs
@@ -30,7 +30,7 @@ fault-spec =
     (tie.spec
     version-reached-requires
     unless-requires
-    worthy-requires
+    worthy-or-allowed-requires
     unless-requires-2
     record-holds-requires
     unless-requires-3

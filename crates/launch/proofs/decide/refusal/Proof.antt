@@ -1,10 +1,18 @@
--- `refusal` meets its contract: no pages, list 255, a digest of zeros.
-use mathlib.Core.Path.{refl}
+-- `refusal` meets its contract: no pages, and the answer of a refusal.
+use mathlib.Core.Path.{_≡_}
+use Rattle.launch.specs.declared.Answer.{Answer}
+use Rattle.launch.specs.declared.Verdict.{Verdict}
+use Rattle.launch.specs.Inner.{noImage}
+use borrow.Author.Needs.{needs}
 use Rattle.launch.proofs.decide.refusal.Statement.{statement}
 use Rattle.launch.proofs.decide.refusal.Tie as tie
 
+refused-requires : tie.Need-refused-requires
+refused-requires c κs = search needs
+
 returns : tie.Need-returns
-returns c = refl
+returns c =
+    rw (c .refused .ensures)
 
 pub refusal-spec : {M : Type 1} → statement M
-refusal-spec = tie.close (tie.spec returns)
+refusal-spec = tie.close (tie.spec refused-requires returns)

@@ -6,7 +6,7 @@ use Rattle.pages.specs.declared.Kind.the-variants.{Directory, Page}
 use Rattle.pages.specs.Memory.{windowOf}
 use Rattle.pages.specs.Tables.{entries, entryAt, levelSize, foundFrom, foundIn}
 use Rattle.pages.specs.Inner.{Tried}
-use Rattle.pages.proofs.Turns.{tried-none, table-turn}
+use Rattle.pages.proofs.Tried.{tried-none, table-more}
 use borrow.Author.Needs.{needs}
 use Rattle.pages.proofs.levels.pages.Statement.{statement}
 use Rattle.pages.proofs.levels.pages.Tie as tie
@@ -33,7 +33,7 @@ loop-less c = search needs
 loop-again : tie.Need-loop-again Inv-loop μ-loop
 loop-again c = (
   search needs,
-  table-turn _ _ _ _ _ _ _ _ (c .before .before .loop .inv .1) (c .table .ensures),
+  table-more _ _ _ _ _ _ _ _ (c .before .before .loop .inv .1) (c .table .ensures),
 )
 
 returns : tie.Need-returns Inv-loop μ-loop

@@ -5,7 +5,7 @@ use native.Mathlib.Omega.{arith}
 use Rattle.pages.specs.Memory.{windowOf}
 use Rattle.pages.specs.Tables.{entryAt, foundFrom}
 use Rattle.pages.specs.Inner.{Tried}
-use Rattle.pages.proofs.Turns.{tried-none, span-turn}
+use Rattle.pages.proofs.Tried.{tried-none, span-more}
 use borrow.Author.Needs.{needs}
 use Rattle.pages.proofs.levels.span.Statement.{statement}
 use Rattle.pages.proofs.levels.span.Tie as tie
@@ -41,7 +41,7 @@ loop-less c = search needs
 loop-again : tie.Need-loop-again Inv-loop μ-loop
 loop-again c = (
   search needs,
-  span-turn _ _ _ _ _ _ _ _ _ _ (c .before .before .before .loop .inv .1) (c .step .ensures) (c .before .entry .ensures),
+  span-more _ _ _ _ _ _ _ _ _ _ (c .before .before .before .loop .inv .1) (c .step .ensures) (c .before .entry .ensures),
 )
 
 returns : tie.Need-returns Inv-loop μ-loop

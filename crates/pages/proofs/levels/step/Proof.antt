@@ -2,7 +2,7 @@
 use mathlib.Core.Path.{sym, ap, _∙_}
 use borrow.Author.Tests.{not-true, not-false}
 use Rattle.pages.specs.Rules.{after}
-use Rattle.pages.proofs.Turns.{tried-refused, step-absent, step-fault, step-passed, room}
+use Rattle.pages.proofs.Tried.{tried-refused, step-absent, step-fault, step-passed, room}
 use borrow.Author.Needs.{needs}
 use Rattle.pages.proofs.levels.step.Statement.{statement}
 use Rattle.pages.proofs.levels.step.Tie as tie
@@ -29,8 +29,8 @@ returns-3 c =
 address-requires : tie.Need-address-requires
 address-requires c κs = search needs
 
-met-requires : tie.Need-met-requires
-met-requires c κs = (room _ _ _ _ _ _ (sym (c .before .before .entry-fault .ensures) ∙ c .before .if3 .left), search needs)
+after-entry-requires : tie.Need-after-entry-requires
+after-entry-requires c κs = (room _ _ _ _ _ _ (sym (c .before .before .entry-fault .ensures) ∙ c .before .if3 .left), search needs)
 
 returns-4 : tie.Need-returns-4
 returns-4 c =
@@ -38,7 +38,7 @@ returns-4 c =
     let a = d .before .before .before .before .before .args in
     step-passed _ _ _ _ _ _ _ (d .before .before .if1 .left) (sym (d .before .present .ensures) ∙ not-false _ (d .if2 .left))
     (sym (c .before .before .before .entry-fault .ensures) ∙ c .before .before .if3 .left)
-    (c .met .ensures ∙ ap (after (a .kind) (a .r .state) (a .l)) (c .before .address .ensures))
+    (c .after-entry .ensures ∙ ap (after (a .kind) (a .r .state) (a .l)) (c .before .address .ensures))
 
 pub step-spec : {M : Type 1} → statement M
 step-spec =
@@ -50,5 +50,5 @@ step-spec =
     entry-fault-requires
     returns-3
     address-requires
-    met-requires
+    after-entry-requires
     returns-4)

@@ -2,7 +2,7 @@
 use mathlib.Core.Path.{sym, ap, _∙_}
 use borrow.Author.Tests.{not-true}
 use Rattle.pages.specs.Entry.{presentOf}
-use Rattle.pages.proofs.Turns.{tried-refused, table-skipped}
+use Rattle.pages.proofs.Tried.{tried-refused, table-skipped}
 use borrow.Author.Needs.{needs}
 use Rattle.pages.proofs.levels.table.Statement.{statement}
 use Rattle.pages.proofs.levels.table.Tie as tie

@@ -1,6 +1,6 @@
 -- `walk` meets its contract: the base, the pointer entries, the directory entries and the pages were tried in turn.
 use mathlib.Core.Path.{refl}
-use Rattle.pages.proofs.Turns.{walk-refused, walk-mapped}
+use Rattle.pages.proofs.Answer.{walk-refused, walk-mapped}
 use borrow.Author.Needs.{needs}
 use Rattle.pages.proofs.levels.walk.Statement.{statement}
 use Rattle.pages.proofs.levels.walk.Tie as tie

@@ -1,4 +1,4 @@
--- `with_page` meets its contract: the first page met is the first linear page.
+-- `with_page` meets its contract: the first page found is the first linear page.
 use mathlib.Core.Logic.{⊎-elim}
 use borrow.Author.Tests.{eq-eqb, ne-eqb}
 use borrow.Author.Needs.{needs}

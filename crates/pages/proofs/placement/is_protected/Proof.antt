@@ -8,25 +8,26 @@ use Rattle.pages.proofs.placement.is_protected.Tie as tie
 inside-requires : tie.Need-inside-requires
 inside-requires c κs = search needs
 
-returns : tie.Need-returns
-unfolding protected
-returns c = search (needs, some-stop)
-
 inside-requires-2 : tie.Need-inside-requires-2
 inside-requires-2 c κs = search needs
-
-returns-2 : tie.Need-returns-2
-unfolding protected
-returns-2 c = search (needs, some-stop, some-pass)
 
 inside-requires-3 : tie.Need-inside-requires-3
 inside-requires-3 c κs = search needs
 
+returns : tie.Need-returns
+unfolding protected
+returns c = some-stop _ _ _ (c .before .inside .ensures) (c .if1 .taken)
+
+returns-2 : tie.Need-returns-2
+unfolding protected
+returns-2 c =
+    some-pass _ _ _ _ (c .before .before .before .inside .ensures) (c .before .before .if1 .left) (some-stop _ _ _ (c .before .inside2 .ensures) (c .if2 .taken))
+
 returns-3 : tie.Need-returns-3
 unfolding protected
-returns-3 c = search (needs, some-pass, some-last)
+returns-3 c =
+    some-pass _ _ _ _ (c .before .before .before .before .inside .ensures) (c .before .before .before .if1 .left)
+    (some-pass _ _ _ _ (c .before .before .inside2 .ensures) (c .before .if2 .left) (some-last _ _ (c .inside3 .ensures)))
 
 pub is-protected-spec : {M : Type 1} → statement M
-is-protected-spec =
-    tie.close
-    (tie.spec inside-requires returns inside-requires-2 returns-2 inside-requires-3 returns-3)
+is-protected-spec = tie.close (tie.spec inside-requires inside-requires-2 inside-requires-3 returns returns-2 returns-3)

@@ -3,7 +3,7 @@ use mathlib.Core.Path.{sym, ap}
 use mathlib.Core.Logic.{⊎-elim, inl, inr}
 use lib.Dec.{lit≤}
 use borrow.Author.Tests.{ne-eqb}
-use Rattle.policy.specs.Grammar.{digestLength}
+use Rattle.policy_grammar.specs.Grammar.{digestLength}
 use Rattle.policy.proofs.elements.digest_length.Statement.{statement}
 use Rattle.policy.proofs.elements.digest_length.Tie as tie
 

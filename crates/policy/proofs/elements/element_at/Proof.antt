@@ -1,11 +1,11 @@
 -- `element_at` meets its contract: past the string there is no element, and elsewhere it is the one at the front of what is left.
-use Rattle.policy.proofs.ElementTests.{at-past, at-front}
+use Rattle.policy.proofs.Offsets.{element-past, element-front}
 use borrow.Author.Needs.{needs}
 use Rattle.policy.proofs.elements.element_at.Statement.{statement}
 use Rattle.policy.proofs.elements.element_at.Tie as tie
 
 returns : tie.Need-returns
-returns c = search (needs, at-past)
+returns c = element-past _ _ (c .before .shared-slice-known .given) (c .if1 .taken)
 
 sub-first-element : tie.Need-sub-first-element
 sub-first-element c = search needs
@@ -20,7 +20,7 @@ first-element-requires : tie.Need-first-element-requires
 first-element-requires c κs = search needs
 
 returns-2 : tie.Need-returns-2
-returns-2 c = search (needs, at-front)
+returns-2 c = element-front _ _ (c .before .before .before .shared-slice-known .given) _ (c .first-element .ensures)
 
 pub element-at-spec : {M : Type 1} → statement M
 element-at-spec =

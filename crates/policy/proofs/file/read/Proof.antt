@@ -1,5 +1,5 @@
 -- `read` meets its contract: one law for each answer.
-use Rattle.policy.specs.Grammar.{markCharacters}
+use Rattle.policy_grammar.specs.Grammar.{markCharacters}
 use Rattle.policy.proofs.FileTests.{read-short, read-long, read-mark, read-zeros, read-none, read-many, read-unfilled, read-yes}
 use Prim.Native.Nat.{_<_}
 use native.Mathlib.Omega.{arith}

@@ -1,22 +1,21 @@
--- `lists_fill` meets its contract. The invariant: the lists passed and those left to count are the lists of the whole.
+-- `lists_fill` meets its contract. The invariant: whatever lists stand there, k of them have been passed, and filling the rest fills the whole.
 use Prim.Native.Nat.{_≤_, _-_}
 use lib.ListN.{length}
-use Rattle.policy.specs.Decode as Decode
-use Rattle.policy.proofs.Runs.{Counting, counting-start, counting-end}
 use Rattle.policy.proofs.Standing as kinds
-use Rattle.policy.proofs.Turns as turns
+use Rattle.policy.proofs.Loops as loops
+use Rattle.policy.proofs.Filling.{lists-stop, lists-end}
 use borrow.Author.Needs.{needs}
 use Rattle.policy.proofs.lists.lists_fill.Statement.{statement}
 use Rattle.policy.proofs.lists.lists_fill.Tie as tie
 
 abbrev Inv-loop : tie.InvT-loop
-Inv-loop t n at₀ k₀ at k = (k ≤ n) × (at ≤ length t) × Counting Decode.list t n at k
+Inv-loop t n at₀ k₀ at k = (k ≤ n) × (at ≤ length t) × loops.Run kinds.list t at k
 
 abbrev μ-loop : tie.MeasureT-loop
 μ-loop t n at₀ k₀ at k = n - k
 
 loop-holds : tie.Need-loop-holds Inv-loop μ-loop
-loop-holds c = (search needs, search needs, counting-start Decode.list _ _)
+loop-holds c = (search needs, search needs, loops.run-start kinds.list _)
 
 list-at-requires : tie.Need-list-at-requires Inv-loop μ-loop
 list-at-requires c κs = search needs
@@ -25,10 +24,10 @@ list-size-requires : tie.Need-list-size-requires Inv-loop μ-loop
 list-size-requires c κs = search needs
 
 returns : tie.Need-returns Inv-loop μ-loop
-returns c = search (needs, turns.counts-not kinds.list)
+returns c = search (needs, lists-stop)
 
 add-at : tie.Need-add-at Inv-loop μ-loop
-add-at c = record { fits = search (needs, turns.fits kinds.list) }
+add-at c = record { fits = search (needs, loops.fits kinds.list) }
 
 add-k : tie.Need-add-k Inv-loop μ-loop
 add-k c = search needs
@@ -37,10 +36,10 @@ loop-less : tie.Need-loop-less Inv-loop μ-loop
 loop-less c = search needs
 
 loop-again : tie.Need-loop-again Inv-loop μ-loop
-loop-again c = (search needs, search (needs, turns.within kinds.list), search (needs, turns.counts-on kinds.list))
+loop-again c = (search needs, search (needs, loops.within kinds.list), search (needs, loops.run-on kinds.list))
 
 returns-2 : tie.Need-returns-2 Inv-loop μ-loop
-returns-2 c = search (needs, counting-end)
+returns-2 c = search (needs, lists-end)
 
 pub lists-fill-spec : {M : Type 1} → statement M
 lists-fill-spec =

@@ -2,7 +2,7 @@
 use Prim.Native.Nat.{_≤_, _-_}
 use lib.ListN.{length}
 use Rattle.policy.proofs.Standing.{element}
-use Rattle.policy.proofs.Turns.{fits}
+use Rattle.policy.proofs.Loops.{fits}
 use borrow.Author.Needs.{needs}
 use Rattle.policy_show.proofs.show.elements_from.Statement.{statement}
 use Rattle.policy_show.proofs.show.elements_from.Tie as tie

@@ -1,0 +1,115 @@
+-- What the policy decides, rules 23 to 29: what one group of rules makes of the verdict by all of them.
+use Prim.Native.Nat.{ℕ}
+use mathlib.Core.Path.{_≡_, refl, sym, _∙_}
+use mathlib.Core.Bool.{true, false, cond}
+use mathlib.Core.List.{List, [], _∷_, _++_}
+use native.Mathlib.Omega.{arith}
+use borrow.Author.Tests.{eq-eqb, ne-eqb}
+use lib.Dec.{lit<, eqb}
+use Rattle.field.specs.Number.{Bytes}
+use Rattle.rules.specs.Rules.{Rule, rule, all, firstFailing, answerBy}
+use Rattle.rules.proofs.Rules.{numbers-not-0}
+use Rattle.rules.proofs.Tests.{_&_, fails}
+use Rattle.rules.proofs.Answers.{permits, rule-refuses, rule-passes, group-refuses, group-passes}
+use Rattle.mle.specs.Image.{imageDigest}
+use Rattle.decision.specs.declared.RecordAnswer.the-variants as records
+use Rattle.decision.specs.Record.{policyType, LIST, recordRules}
+use Rattle.decision.specs.Lists.{filePlaced, somePermits, noList, lowestPermitting}
+use Rattle.decision.specs.Answers.{recordOf, fileRules}
+use Rattle.decision.proofs.RecordAnswers.{list-exactly, any-exactly, refusal-exactly}
+use Rattle.decision.proofs.Permission.{reported-exactly}
+use Rattle.launch.specs.declared.Found.{Found}
+use Rattle.launch.specs.declared.Verdict.{Verdict}
+use Rattle.launch.specs.Rules.{policyFile, criteria, listRules}
+use Rattle.launch.specs.Answer.{listFor}
+use Rattle.launch.specs.Inner.{refusal, permissionWith, permission, fileStage, listStage, decideStage}
+use Rattle.launch.proofs.Order.{record-group}
+
+-- 29
+module _ (w file : List ℕ) (f : Found) where
+  abbrev last : List Rule
+  last = rule 29 (somePermits file (criteria w f)) ∷ []
+
+  abbrev lowest : ℕ
+  lowest = lowestPermitting file (criteria w f)
+
+  -- by the digest and the list that were worked out
+  module _ (d : List ℕ) (l : ℕ) (is-digest : d ≡ imageDigest w (f .image))
+      (is-list : l ≡ lowestPermitting file (record { digest = d; «acm_version» = f .«acm_version» })) (b : Bytes file) where
+    listed : l ≡ lowest
+    listed = rw is-digest at is-list
+
+    pub no-list : l ≡ noList → refusal 29 ≡ fileStage w file f
+    unfolding fileStage
+    no-list e =
+        rule-refuses refusal (permission w f lowest) 29 _ [] (lit< tt)
+        (sym (fails (reported-exactly file (criteria w f) b) (λ h. h (sym listed ∙ e))))
+
+    pub a-list : (l ≡ noList → ⊥) → permissionWith f l d ≡ fileStage w file f
+    unfolding fileStage
+    a-list h =
+        rw (is-digest, listed)
+        (permits refusal (permission w f lowest) last (rw (reported-exactly file (criteria w f) b .1 (λ e. h (listed ∙ e)))))
+
+module _ (w r : List ℕ) (f : Found) where
+  -- 26 to 28
+  abbrev file : List ℕ
+  file = policyFile w f
+
+  abbrev permitting : Verdict
+  permitting = permission w f (lowest w file f)
+
+  pub not-placed : all (filePlaced w (f .«window_base») (f .«policy_file» .base) (f .«policy_file» .size)) ≡ false → refusal 26 ≡ listStage w r f
+  unfolding listStage
+  not-placed e = rule-refuses refusal permitting 26 _ (fileRules file r ++ last w file f) (lit< tt) e
+
+  -- by the file that was found and the number of its first rule that fails
+  module _ (placed : all (filePlaced w (f .«window_base») (f .«policy_file» .base) (f .«policy_file» .size)) ≡ true) (s : List ℕ) (n : ℕ)
+      (is-file : s ≡ file) (is-fault : n ≡ firstFailing (fileRules s r)) where
+    fault : firstFailing (fileRules file r) ≡ n
+    fault = sym (rw is-file at is-fault)
+
+    pub file-refuses : (n ≡ 0 → ⊥) → refusal n ≡ listStage w r f
+    unfolding listStage
+    file-refuses h =
+        group-refuses refusal permitting (fileRules file r) (last w file f) n (omega arith) fault
+        ∙ rule-passes refusal permitting 26 _ (fileRules file r ++ last w file f) placed
+
+    pub file-passes : n ≡ 0 → fileStage w s f ≡ listStage w r f
+    unfolding listStage fileStage
+    file-passes z =
+        rw is-file
+        (group-passes refusal permitting (fileRules file r) (last w file f) (lit< tt & lit< tt & tt) (fault ∙ z)
+        ∙ rule-passes refusal permitting 26 _ (fileRules file r ++ last w file f) placed)
+
+  -- 23 to 25
+  abbrev rules : List Rule
+  rules = recordRules r (f .flags) (f .«acm_version»)
+
+  abbrev later : List Rule
+  later = cond (eqb (policyType r) LIST) (listRules w r f) []
+
+  abbrev verdict : Verdict
+  verdict = permission w f (listFor w r f)
+
+  record-passes : firstFailing rules ≡ 0 → answerBy refusal verdict later ≡ decideStage w r f
+  unfolding decideStage
+  record-passes e = group-passes refusal verdict rules later (numbers-not-0 23 25 rules (lit< tt) (record-group r (f .flags) (f .«acm_version») .numbers)) e
+
+  pub record-refuses : (n : ℕ) → recordOf r (f .flags) (f .«acm_version») ≡ records.Refused n → refusal n ≡ decideStage w r f
+  unfolding decideStage
+  record-refuses n e = let a = refusal-exactly r _ _ n .0 e in group-refuses refusal verdict rules later n (a .0) (a .1)
+
+  pub record-any : recordOf r (f .flags) (f .«acm_version») ≡ records.Any → permission w f noList ≡ decideStage w r f
+  record-any e =
+      let a = any-exactly r _ _ .0 e in
+      let none : permission w f noList ≡ answerBy refusal verdict later =
+      rw (ne-eqb (policyType r) LIST (a .1)) (permits refusal (permission w f noList) [] refl) in
+      none ∙ record-passes (a .0)
+
+  pub record-list : recordOf r (f .flags) (f .«acm_version») ≡ records.List → listStage w r f ≡ decideStage w r f
+  unfolding listStage
+  record-list e =
+      let a = list-exactly r _ _ .0 e in
+      let under : listStage w r f ≡ answerBy refusal verdict later = rw (eq-eqb (policyType r) LIST (a .1)) in
+      under ∙ record-passes (a .0)

@@ -1,0 +1,10 @@
+-- `refused` meets its contract: no pages, list 255, a digest of zeros.
+use mathlib.Core.Path.{refl}
+use Rattle.launch.proofs.refused.Statement.{statement}
+use Rattle.launch.proofs.refused.Tie as tie
+
+returns : tie.Need-returns
+returns c = refl
+
+pub refused-spec : {M : Type 1} → statement M
+refused-spec = tie.close (tie.spec returns)

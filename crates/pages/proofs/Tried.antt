@@ -1,0 +1,163 @@
+-- Entries tried in turn: the number is that of the first rule that fails, of all rules in order, and where it is 0 what was found is what all entries leave.
+use Prim.Native.Nat.{ℕ, zero, suc, _+_, _*_, _<_}
+use mathlib.Core.Path.{_≡_, refl, sym, ap, _∙_}
+use mathlib.Core.Logic.{⊎-elim}
+use mathlib.Core.Bool.{Bool, true, false, cond}
+use mathlib.Core.List.{List, [], _∷_, _++_, append-nil, append-assoc}
+use native.Mathlib.Omega.{arith}
+use Rattle.range.specs.declared.Range.{Range}
+use Rattle.rules.specs.Rules.{Rule, firstFailing, Numbered}
+use Rattle.rules.specs.Meaning.{AllSay}
+use Rattle.rules.proofs.Meaning.{numbered}
+use Rattle.rules.proofs.Answers.{all-mean}
+use Rattle.pages.specs.declared.Kind.{Kind}
+use Rattle.pages.specs.declared.Kind.the-variants.{Pointer, Directory, Page}
+use Rattle.pages.specs.declared.Memory.{Memory}
+use Rattle.pages.specs.declared.levels.Run.{Run}
+use Rattle.pages.specs.declared.levels.State.{State}
+use Rattle.pages.specs.declared.WalkAnswer.the-variants.{Mapped, Refused}
+use Rattle.pages.specs.Entry.{presentOf, addressOf}
+use Rattle.pages.specs.Tables.{Found, entries, directoryAt, pageAt, foundOf, foundOne, foundFrom}
+use Rattle.pages.specs.Rules.{after, afterEntry, afterAll, entryRules, rulesFrom}
+use Rattle.pages.specs.Meaning.{ownMeanings, entryMeanings, meaningsFrom}
+use Rattle.pages.specs.Inner.{Room, orElse, Tried}
+use Rattle.pages.proofs.Found.{found-append, found-last}
+use Rattle.pages.proofs.Joined.{table-absent}
+use Rattle.pages.proofs.Conditions.{entry-agree, from-agree}
+
+-- NUMBERS IN ORDER
+
+or-else-number : (n later : ℕ) → 0 < n → orElse n later ≡ n
+or-else-number zero later z = absurd (omega arith)
+or-else-number (suc n) later z = refl
+
+pub first-append : (rs qs : List Rule) → Numbered rs → firstFailing (rs ++ qs) ≡ orElse (firstFailing rs) (firstFailing qs)
+first-append [] qs z = refl
+first-append (r ∷ rs) qs z = by (r .holds) (first-append rs qs (z .1))
+  where
+    by : (b : Bool) → firstFailing (rs ++ qs) ≡ orElse (firstFailing rs) (firstFailing qs)
+        → cond b (firstFailing (rs ++ qs)) (r .number) ≡ orElse (cond b (firstFailing rs) (r .number)) (firstFailing qs)
+    by true e = e
+    by false e = sym (or-else-number (r .number) (firstFailing qs) (z .0))
+
+module _ (window : Range) (m : Memory) where
+  -- no rule has the number 0
+  pub rules-numbered : (s : State) (es : List Found) → Numbered (rulesFrom window m s es)
+  rules-numbered s es = numbered (rulesFrom window m s es) (meaningsFrom window m s es) (from-agree window m s es)
+
+  pub rules-append : (s : State) (es fs : List Found) → rulesFrom window m s (es ++ fs) ≡ rulesFrom window m s es ++ rulesFrom window m (afterAll s es) fs
+  unfolding rulesFrom
+  rules-append s [] fs = refl
+  rules-append s (e ∷ es) fs =
+      rw (rules-append (afterEntry s e) es fs)
+      (sym (append-assoc (entryRules (e .kind) window m s (e .number) (e .entry)) (rulesFrom window m (afterEntry s e) es) (rulesFrom window m (afterAll (afterEntry s e) es) fs)))
+
+pub after-append : (s : State) (es fs : List Found) → afterAll s (es ++ fs) ≡ afterAll (afterAll s es) fs
+after-append s [] fs = refl
+after-append s (e ∷ es) fs = after-append (afterEntry s e) es fs
+
+-- ENTRIES TRIED
+
+-- the number of three stages in order
+order : (n a b : ℕ) → orElse (orElse n a) b ≡ orElse n (orElse a b)
+order zero a b = refl
+order (suc n) a b = refl
+
+no-more : (n : ℕ) → n ≡ orElse n 0
+no-more zero = refl
+no-more (suc n) = refl
+
+zero-both : (n a : ℕ) → orElse n a ≡ 0 → (n ≡ 0) × (a ≡ 0)
+zero-both zero a e = (refl, e)
+zero-both (suc n) a e = absurd (omega arith)
+
+module _ (window : Range) (m : Memory) where
+  pub tried-none : (r : Run) → Tried window m r r []
+  unfolding rulesFrom
+  tried-none r = record { number = no-more (r .number); state = λ z. refl }
+
+  -- nothing more is tried after a rule has failed
+  pub tried-refused : (r : Run) (es : List Found) → (r .number ≡ 0 → ⊥) → Tried window m r r es
+  tried-refused r es h = record { number = sym (or-else-number (r .number) _ (omega arith)); state = λ z. absurd (h z) }
+
+  pub tried-then : (r s t : Run) (es fs : List Found) → Tried window m r s es → Tried window m s t fs → Tried window m r t (es ++ fs)
+  tried-then r s t es fs x y = record { number = number; state = state }
+    where
+      first : ℕ
+      first = firstFailing (rulesFrom window m (r .state) es)
+
+      last : ℕ
+      last = firstFailing (rulesFrom window m (afterAll (r .state) es) fs)
+
+      stages : firstFailing (rulesFrom window m (r .state) (es ++ fs)) ≡ orElse first last
+      stages =
+          rw (rules-append window m (r .state) es fs)
+          (first-append (rulesFrom window m (r .state) es) (rulesFrom window m (afterAll (r .state) es) fs) (rules-numbered window m (r .state) es))
+
+      then-last : (n : ℕ) → s .number ≡ n → orElse n (firstFailing (rulesFrom window m (s .state) fs)) ≡ orElse n last
+      then-last zero e = rw (x .state e)
+      then-last (suc n) e = refl
+
+      number : t .number ≡ orElse (r .number) (firstFailing (rulesFrom window m (r .state) (es ++ fs)))
+      number =
+          y .number
+          ∙ then-last (s .number) refl
+          ∙ ap (λ (n : ℕ). orElse n last) (x .number)
+          ∙ order (r .number) first last
+          ∙ ap (orElse (r .number)) (sym stages)
+
+      state : t .number ≡ 0 → t .state ≡ afterAll (r .state) (es ++ fs)
+      state z =
+          let e = zero-both (s .number) (firstFailing (rulesFrom window m (s .state) fs)) (sym (y .number) ∙ z) .0 in
+          y .state z ∙ rw (x .state e, after-append (r .state) es fs)
+
+  -- ONE ENTRY
+
+  -- the rules of one entry, with none after it
+  single : (k : Kind) (s : State) (l e : ℕ) → firstFailing (rulesFrom window m s (foundOf k l e ∷ [])) ≡ firstFailing (entryRules k window m s l e)
+  unfolding rulesFrom
+  single k s l e = ap firstFailing (append-nil (entryRules k window m s l e))
+
+  module _ (k : Kind) (r : Run) (l e : ℕ) where
+    pub step-absent : presentOf e ≡ false → Tried window m r r (foundOne k l e)
+    step-absent h = rw h (tried-none r)
+
+    pub step-fault : (n : ℕ) → r .number ≡ 0 → presentOf e ≡ true → n ≡ firstFailing (entryRules k window m (r .state) l e) → (n ≡ 0 → ⊥)
+        → Tried window m r (record { number = n; state = r .state }) (foundOne k l e)
+    step-fault n z h f stops =
+        rw h (record { number = rw (z, single k (r .state) l e) f; state = λ y. absurd (stops y) })
+
+    pub step-passed : (s : State) → r .number ≡ 0 → presentOf e ≡ true → firstFailing (entryRules k window m (r .state) l e) ≡ 0 → s ≡ after k (r .state) l (addressOf e)
+        → Tried window m r (record { number = 0; state = s }) (foundOne k l e)
+    step-passed s z h f q = rw h (record { number = rw (z, single k (r .state) l e) (sym f); state = λ y. q })
+
+  -- where an entry breaks no rule, it can be counted
+  pub room : (k : Kind) (s : State) (l e : ℕ) → firstFailing (entryRules k window m s l e) ≡ 0 → Room k s l
+  room k s l e z =
+      by k (all-mean Refused (Mapped 0 0) (entryRules k window m s l e) (entryMeanings k window m s l e) (entry-agree window m k s l e) .0 z .1 .1 .1 .1)
+    where
+      by : (k : Kind) → AllSay (ownMeanings k m s l (addressOf e)) → Room k s l
+      by Pointer h = h .0
+      by Directory h = h .0
+      by Page h = ⊎-elim (λ c. omega arith) (λ q. omega arith) (h .0)
+
+  -- ENTRIES OF A LEVEL
+
+  module _ (k : Kind) (f : ℕ → ℕ) (r : Run) where
+    -- one entry more
+    pub span-more : (s t : Run) (l i e : ℕ) → Tried window m r s (foundFrom k f l i) → Tried window m s t (foundOne k (l + i) e) → e ≡ f (l + i)
+        → Tried window m r t (foundFrom k f l (i + 1))
+    span-more s t l i e x y q = rw (found-last k f l i) (tried-then r s t (foundFrom k f l i) (foundOne k (l + i) (f (l + i))) x (rw q at y))
+
+    -- one table more
+    pub table-more : (s t : Run) (d : ℕ) → Tried window m r s (foundFrom k f 0 (entries * d)) → Tried window m s t (foundFrom k f (entries * d) entries)
+        → Tried window m r t (foundFrom k f 0 (entries * (d + 1)))
+    table-more s t d x y =
+        let a : entries * (d + 1) ≡ entries * d + entries = omega arith in
+        let b : 0 + entries * d ≡ entries * d = omega arith in
+        rw (a, found-append k f 0 (entries * d) entries, b) (tried-then r s t (foundFrom k f 0 (entries * d)) (foundFrom k f (entries * d) entries) x y)
+
+-- the pages of a directory entry that is absent leave everything as it was
+pub table-skipped : (window : Range) (m : Memory) (w : List ℕ) (base t d : ℕ) (r : Run) → presentOf (directoryAt w base t d) ≡ false
+    → Tried window m r r (foundFrom Page (pageAt w base t) (entries * d) entries)
+table-skipped window m w base t d r h = rw (table-absent w base t d h) (tried-none window m r)

@@ -1,0 +1,72 @@
+-- The layout of a policy file: every field in file order, with its width and its rule.
+-- A size or a count that reaches past what holds it is a fault of that field.
+use Prim.Native.Nat.{ℕ, _+_, _*_, _-_}
+use mathlib.Core.Bool.{cond, _&&_, _||_}
+use mathlib.Core.List.{List, [], _∷_, _++_}
+use lib.ListN.{take, drop}
+use lib.Dec.{leb, eqb}
+use Rattle.field.specs.Field.{same}
+use Rattle.policy_grammar.specs.Grammar.{Digests, Body, Element, digestLength, Signing, PolicyList, Reading, markCharacters}
+use Rattle.policy_grammar.specs.Grammar as Grammar
+use Rattle.policy_grammar.specs.Format.{Format, _>>=_, done, number, string, any, anyBytes, rest, inside, times, many}
+
+unfoldable pub digests : Format Digests
+digests = do
+  a ← number 2 (λ left a. leb 1 (digestLength a))
+  n ← number 2 (λ left n. leb (n * digestLength a) left)
+  ds ← times n (string (digestLength a) anyBytes)
+  done (record { hashAlg = a; count = n; digests = ds })
+
+unfoldable pub launch : Format Body
+launch = do
+  m ← number 1 any
+  v ← number 1 any
+  ds ← digests
+  done (Grammar.launch (record { sinitMinVersion = m; reserved = v; digests = ds }))
+
+unfoldable pub other : Format Body
+other = do
+  b ← rest
+  done (Grammar.other b)
+
+unfoldable pub body : ℕ → Format Body
+body type = cond (eqb type 0x10) launch other
+
+-- the size counts itself, which is 4 bytes
+unfoldable pub element : Format Element
+element = do
+  n ← number 4 (λ left n. leb 12 n && leb n (4 + left))
+  t ← number 4 any
+  c ← number 4 any
+  b ← inside (n - 12) (body t)
+  done (record { size = n; type = t; control = c; body = b })
+
+-- the key size answers for the key and the signature
+unfoldable pub signed : Format Signing
+signed = do
+  c ← number 2 any
+  k ← number 2 (λ left k. (eqb k 256 || eqb k 384) && leb (k + k) left)
+  key ← string k anyBytes
+  signature ← string k anyBytes
+  done (Grammar.signed (record { counter = c; keySize = k; key = key; signature = signature }))
+
+unfoldable pub signing : ℕ → Format Signing
+signing algorithm = cond (eqb algorithm 0x0014) signed (done Grammar.unsigned)
+
+unfoldable pub list : Format PolicyList
+list = do
+  v ← number 2 (λ left v. eqb v 0x0200 || eqb v 0x0201)
+  a ← number 2 (λ left a. eqb a 0x0010 || eqb a 0x0014)
+  n ← number 4 (λ left n. leb n left)
+  es ← inside n (many n element)
+  g ← signing a
+  done (record { version = v; signatureAlgorithm = a; elementsSize = n; elements = es; signing = g })
+
+-- the 28 characters and 4 zeros are one field
+unfoldable pub file : Format Reading
+file = do
+  m ← string 32 (λ b. same b (markCharacters ++ (0 ∷ 0 ∷ 0 ∷ 0 ∷ [])))
+  z ← string 3 (λ b. same b (0 ∷ 0 ∷ 0 ∷ []))
+  n ← number 1 (λ left n. leb 1 n && leb n 8)
+  ls ← times n list
+  done (record { mark = take 28 m; markZeros = drop 28 m; reserved = z; listCount = n; lists = ls })

@@ -1,0 +1,4 @@
+pub mod Bitwise
+pub mod BlockWords
+pub mod Schedule
+pub mod Blocks

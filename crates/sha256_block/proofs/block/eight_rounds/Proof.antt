@@ -1,0 +1,65 @@
+-- One round after the other.
+use Rattle.sha256_block.specs.Inner.{listOf}
+use Rattle.sha256_block.proofs.Schedule.{no-round, one-more}
+use borrow.Author.Needs.{needs}
+use Rattle.sha256_block.proofs.block.eight_rounds.Statement.{statement}
+use Rattle.sha256_block.proofs.block.eight_rounds.Tie as tie
+
+round-requires : tie.Need-round-requires
+round-requires c κs = search needs
+
+round-requires-2 : tie.Need-round-requires-2
+round-requires-2 c κs = search needs
+
+round-requires-3 : tie.Need-round-requires-3
+round-requires-3 c κs = search needs
+
+round-requires-4 : tie.Need-round-requires-4
+round-requires-4 c κs = search needs
+
+round-requires-5 : tie.Need-round-requires-5
+round-requires-5 c κs = search needs
+
+round-requires-6 : tie.Need-round-requires-6
+round-requires-6 c κs = search needs
+
+round-requires-7 : tie.Need-round-requires-7
+round-requires-7 c κs = search needs
+
+round-requires-8 : tie.Need-round-requires-8
+round-requires-8 c κs = search needs
+
+returns : tie.Need-returns
+returns c =
+    let p7 = c .before in
+    let p6 = p7 .before in
+    let p5 = p6 .before in
+    let p4 = p5 .before in
+    let p3 = p4 .before in
+    let p2 = p3 .before in
+    let p1 = p2 .before in
+    let a = p1 .before .args in
+    let k = listOf (a .k) in
+    let w = listOf (a .w) in
+    let s1 = one-more 0 (a .s) _ k w (no-round (a .s) k w) (p1 .round .ensures) in
+    let s2 = one-more 1 (a .s) _ k w s1 (p2 .round2 .ensures) in
+    let s3 = one-more 2 (a .s) _ k w s2 (p3 .round3 .ensures) in
+    let s4 = one-more 3 (a .s) _ k w s3 (p4 .round4 .ensures) in
+    let s5 = one-more 4 (a .s) _ k w s4 (p5 .round5 .ensures) in
+    let s6 = one-more 5 (a .s) _ k w s5 (p6 .round6 .ensures) in
+    let s7 = one-more 6 (a .s) _ k w s6 (p7 .round7 .ensures) in
+    one-more 7 (a .s) _ k w s7 (c .round8 .ensures)
+
+pub eight-rounds-spec : {M : Type 1} → statement M
+eight-rounds-spec =
+    tie.close
+    (tie.spec
+    round-requires
+    round-requires-2
+    round-requires-3
+    round-requires-4
+    round-requires-5
+    round-requires-6
+    round-requires-7
+    round-requires-8
+    returns)

@@ -1,0 +1,8 @@
+-- What the contracts of private functions cite.
+use Prim.Native.Nat.{ℕ}
+use mathlib.Core.List.{List, [], _∷_}
+use Rattle.sha256_block.specs.declared.block.Eight.{Eight}
+
+-- eight words, as a list
+abbrev pub listOf : Eight → List ℕ
+listOf w = w .w0 ∷ w .w1 ∷ w .w2 ∷ w .w3 ∷ w .w4 ∷ w .w5 ∷ w .w6 ∷ w .w7 ∷ []

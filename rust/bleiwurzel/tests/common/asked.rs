@@ -1,0 +1,41 @@
+//! The check, and all that holds of an answer beside its number.
+
+use super::Image;
+use bleiwurzel::{answer, finding, Answer};
+use plain_sha256::digest_in_parts;
+
+/// A value that no page address has, to see which places of a page list are written.
+pub const UNTOUCHED: u64 = 0xdead_beef_dead_beef;
+
+/// The answer, after looking at the page list, the digest and what the rules written a second time in Rust say.
+pub fn asked(name: &str, image: &Image) -> Answer {
+    let mut pages = vec![UNTOUCHED; image.places];
+    let given = answer(&image.parts(), &image.platform, &mut pages);
+    let found = finding::first(&image.parts(), &image.platform, image.places);
+    assert_eq!(found.map_or(0, |finding| finding.number), given.number, "{name}: the finding's number");
+    let listed: &[u64] = if given.number == 0 { &image.listed } else { &[] };
+    for (k, place) in pages.iter().enumerate() {
+        assert_eq!(*place, listed.get(k).copied().unwrap_or(UNTOUCHED), "{name}: place {k} of {}", image.places);
+    }
+    let digest = if given.number == 0 { digest_in_parts(&image.bytes(), 0) } else { [0; 32] };
+    assert_eq!((given.pages as usize, given.digest), (listed.len(), digest), "{name}: pages and digest");
+    if given.number != 0 {
+        assert_eq!(given.list, 255, "{name}: the list of a refusal");
+    }
+    given
+}
+
+/// What is changed in a good image, and the number that the check answers for it then.
+pub type Case = (&'static str, fn(&mut Image), u32);
+
+/// Holds the check to a table: says of all cases at once which are not as expected.
+pub fn hold(good: &Image, cases: &[Case]) {
+    let of = |(name, change, number): &Case| {
+        let mut image = good.clone();
+        change(&mut image);
+        let given = asked(name, &image).number;
+        (given != *number).then(|| format!("{name}: {given}, not {number}"))
+    };
+    let wrong: Vec<String> = cases.iter().filter_map(of).collect();
+    assert!(wrong.is_empty(), "{} of {} cases: {wrong:#?}", wrong.len(), cases.len());
+}

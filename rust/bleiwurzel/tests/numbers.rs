@@ -1,0 +1,209 @@
+//! The numbers of the rules stand in several languages. This holds the C header and the Rust crate to the definitions in the Rattle
+//! sources: `const NAME: TYPE = VALUE;` in crates/*/src and `name = VALUE` in crates/*/specs.
+//!
+//! Where a definition is renamed or moves to another crate, the table below is what changes.
+
+mod common;
+
+use bleiwurzel::*;
+use common::top;
+use std::collections::BTreeMap;
+use std::path::Path;
+
+struct Number {
+    /// Its value in the Rust crate.
+    value: u64,
+    /// Its definitions in the Rattle sources, in code and in specs: of one crate, or of all crates where none is named.
+    rattle: &'static [&'static str],
+    /// Its macros in include/bleiwurzel.h.
+    macros: &'static [&'static str],
+    /// What the comments there say of it.
+    said: fn(u64) -> Vec<String>,
+}
+
+fn nothing(_: u64) -> Vec<String> {
+    Vec::new()
+}
+
+const NUMBERS: &[Number] = &[
+    Number {
+        value: PAGE_SIZE,
+        rattle: &["PAGE_SIZE", "pageSize"],
+        macros: &[],
+        said: |n| vec![format!("The window base is no multiple of {n},"), format!("MLE Size is 0, no multiple of {n},")],
+    },
+    Number {
+        value: HIGHEST_END,
+        rattle: &["launch::HIGHEST_END", "launch::highestEnd", "heap::HIGH_LIMIT", "heap::highLimit"],
+        macros: &[],
+        said: |n| vec![format!("over 2^{}.", n.trailing_zeros()), format!("the high one ends above 2^{}.", n.trailing_zeros())],
+    },
+    Number {
+        value: MOST_WINDOW as u64,
+        rattle: &["MOST_WINDOW", "mostWindow"],
+        macros: &["BLEIWURZEL_MOST_WINDOW"],
+        said: |n| vec![format!("the window is over {} MiB", n >> 20)],
+    },
+    Number {
+        value: MOST_HEAP as u64,
+        rattle: &["MOST_HEAP", "mostHeap"],
+        macros: &["BLEIWURZEL_MOST_HEAP"],
+        said: |n| vec![format!("the heap is over {} MiB", n >> 20)],
+    },
+    Number { value: MOST_CHIPSETS, rattle: &["sinit::MOST_ENTRIES", "sinit::mostEntries"], macros: &[], said: nothing },
+    Number {
+        value: MOST_PAGES as u64,
+        rattle: &["MOST_PAGES", "mostPages", "PLACES"],
+        macros: &["BLEIWURZEL_MOST_PAGES"],
+        said: |n| vec![format!("or over {n} pages")],
+    },
+    Number { value: MOST_TABLES as u64, rattle: &["MOST_TABLES", "mostTables"], macros: &[], said: nothing },
+    Number {
+        value: RECORD_LENGTH as u64,
+        rattle: &["RECORD_SIZE", "recordSize"],
+        macros: &["BLEIWURZEL_RECORD_LENGTH"],
+        said: |n| vec![format!("does not have {n} bytes, major version 3"), format!("the policy record of {n} bytes")],
+    },
+    Number {
+        value: policy::LEAST as u64,
+        rattle: &["LEAST_FILE", "leastFile", "policy::SMALLEST"],
+        macros: &["BLEIWURZEL_LEAST_POLICY"],
+        said: |n| vec![format!("its size is not {n} to"), format!("it does not have {n} to")],
+    },
+    Number {
+        value: policy::MOST as u64,
+        rattle: &["LARGEST_FILE", "largestFile", "policy::LARGEST"],
+        macros: &["BLEIWURZEL_MOST_POLICY"],
+        said: |n| vec![format!("its size is not 36 to {n} bytes"), format!("it does not have 36 to {n} bytes")],
+    },
+    Number {
+        value: NO_LIST as u64,
+        rattle: &["NO_LIST", "noList"],
+        macros: &["BLEIWURZEL_NO_LIST_INDEX"],
+        said: |n| {
+            vec![format!("On a refusal pages is 0, list {n} and"), format!("{n} under ANY"), format!("counts gets 0 and {n},")]
+        },
+    },
+    Number {
+        value: capture::MOST as u64,
+        rattle: &["capture::LARGEST", "capture::largest"],
+        macros: &["BLEIWURZEL_MOST_CAPTURE"],
+        said: |n| vec![format!("it has over {n} bytes"), format!("at most {n} in all")],
+    },
+    Number {
+        value: capture::HEAD as u64,
+        rattle: &["capture::WINDOW"],
+        macros: &[],
+        said: |n| vec![format!("{n} bytes before the parts")],
+    },
+];
+
+/// The value of a number as Rattle, its specs and C write it: decimal or hexadecimal, with `^`, `<<`, `*` and `-`.
+fn value(text: &str) -> Option<u64> {
+    let text = text.trim().trim_matches(|c| c == '(' || c == ')');
+    if let Some((a, b)) = text.rsplit_once(" - ") {
+        return value(a)?.checked_sub(value(b)?);
+    }
+    if let Some((a, b)) = text.split_once(" << ") {
+        return value(a)?.checked_shl(value(b)? as u32);
+    }
+    if let Some((a, b)) = text.split_once(" * ") {
+        return value(a)?.checked_mul(value(b)?);
+    }
+    if let Some((a, b)) = text.split_once(" ^ ") {
+        return value(a)?.checked_pow(value(b)? as u32);
+    }
+    let digits = text.trim_end_matches('u').replace('_', "");
+    match digits.strip_prefix("0x") {
+        Some(hex) => u64::from_str_radix(hex, 16).ok(),
+        None => digits.parse().ok(),
+    }
+}
+
+/// The definitions of numbers in a line of Rattle code or of specs.
+fn definition(line: &str) -> Option<(&str, u64)> {
+    let line = line.strip_prefix("pub(crate) ").or_else(|| line.strip_prefix("pub ")).unwrap_or(line);
+    let (name, text) = match line.strip_prefix("const ") {
+        Some(constant) => {
+            let (name, rest) = constant.split_once(": ")?;
+            (name, rest.split_once(" = ")?.1.strip_suffix(';')?)
+        }
+        None => line.split_once(" = ")?,
+    };
+    let named = name.chars().all(|c| c.is_ascii_alphanumeric() || c == '_');
+    Some((name, value(text)?)).filter(|_| named)
+}
+
+fn files(folder: &Path, found: &mut Vec<std::path::PathBuf>) {
+    for entry in std::fs::read_dir(folder).into_iter().flatten() {
+        let path = entry.expect("an entry of a folder").path();
+        if path.is_dir() {
+            files(&path, found);
+        } else {
+            found.push(path);
+        }
+    }
+}
+
+/// All definitions of numbers in the Rattle sources: the crate and the value of each, by name.
+fn definitions() -> BTreeMap<String, Vec<(String, u64)>> {
+    let mut all: BTreeMap<String, Vec<(String, u64)>> = BTreeMap::new();
+    for folder in std::fs::read_dir(top().join("crates")).expect("the crates") {
+        let folder = folder.expect("a crate").path();
+        let mut sources = Vec::new();
+        ["src", "specs"].iter().for_each(|part| files(&folder.join(part), &mut sources));
+        let name = folder.file_name().expect("a crate's name").to_string_lossy().into_owned();
+        for source in sources {
+            let text = std::fs::read_to_string(&source).expect("a source");
+            for (defined, value) in text.lines().filter_map(definition) {
+                all.entry(defined.to_string()).or_default().push((name.clone(), value));
+            }
+        }
+    }
+    all
+}
+
+fn header() -> String {
+    std::fs::read_to_string(top().join("include/bleiwurzel.h")).expect("the header")
+}
+
+#[test]
+fn rust_has_the_numbers_of_the_rattle_sources() {
+    let all = definitions();
+    for number in NUMBERS {
+        for name in number.rattle {
+            let (of, name) = name.split_once("::").map_or((None, *name), |(of, name)| (Some(of), name));
+            let found: Vec<&(String, u64)> =
+                all.get(name).into_iter().flatten().filter(|(found, _)| of.map_or(true, |of| of == found)).collect();
+            assert!(!found.is_empty(), "{name} is not defined in {}: the table has the old name", of.unwrap_or("any crate"));
+            for (found, value) in found {
+                assert_eq!(*value, number.value, "{name} of the crate {found}, and the Rust crate");
+            }
+        }
+    }
+}
+
+#[test]
+fn c_has_the_same_numbers() {
+    let header = header();
+    let define = |name: &str| {
+        let line = header.lines().find_map(|line| line.strip_prefix("#define ")?.strip_prefix(name)?.strip_prefix(' '));
+        line.and_then(value)
+    };
+    for number in NUMBERS {
+        for name in number.macros {
+            assert_eq!(define(name), Some(number.value), "{name}");
+        }
+    }
+}
+
+#[test]
+fn the_comments_of_the_header_say_the_same_numbers() {
+    let words: Vec<String> = header().split_whitespace().filter(|word| *word != "*").map(str::to_string).collect();
+    let text = words.join(" ");
+    for number in NUMBERS {
+        for said in (number.said)(number.value) {
+            assert!(text.contains(&said), "the header does not say: {said}");
+        }
+    }
+}

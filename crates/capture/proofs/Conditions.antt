@@ -1,8 +1,8 @@
 -- The tests of a capture say what its propositions say, and its parts are the bytes between their offsets.
-use Prim.Native.Nat.{ℕ, _+_, _-_}
+use Prim.Native.Nat.{ℕ, _+_, _-_, _≤_}
 use mathlib.Core.Path.{_≡_, refl, sym, _∙_, ap}
-use mathlib.Core.Bool.{Bool, true, false, not}
-use mathlib.Core.List.{List}
+use mathlib.Core.Bool.{Bool, true, false, cond, not}
+use mathlib.Core.List.{List, []}
 use native.Mathlib.Omega.{arith}
 use borrow.Author.Tests.{leb-true, le-leb, eqb-true, eq-eqb, not-true, not-false}
 use lib.ListN.{length, take, drop}
@@ -13,8 +13,9 @@ use Rattle.launch.specs.declared.Platform.{Platform}
 use Rattle.launch.specs.declared.Answer.{Answer}
 use Rattle.launch.specs.Rules.{Input, inputOf}
 use Rattle.launch.specs.Answer.{refused, answerOf, placesOf}
+use Rattle.launch.proofs.Demand1.{demand1}
 use Rattle.capture.specs.declared.Offsets.{Offsets}
-use Rattle.capture.specs.Capture.{platformOf, windowAt, offsetsOf, captureTests, CaptureExactly, notCapture, inputIn, captureAnswer, capturePlaces}
+use Rattle.capture.specs.Capture.{platformOf, windowAt, offsetsOf, captureTests, CaptureExactly, notCapture, inputIn, captureAnswer, capturePlaces, NumberMost}
 
 pub capture-exactly : CaptureExactly
 unfolding captureTests
@@ -71,3 +72,11 @@ module _ (s : List ℕ) (t : Bool) (is-test : t ≡ all (captureTests s)) where
 
   pub whole : not t ≡ false → (o : Offsets) → o ≡ offsetsOf s → o .end ≡ length s
   whole h o e = ap (λ (x : Offsets). x .end) e ∙ capture-exactly s .0 (sym is-test ∙ not-false t h) .whole
+
+pub number-most : NumberMost
+unfolding captureAnswer
+number-most s n = by (all (captureTests s))
+  where
+    by : (t : Bool) → cond t (answerOf (inputIn s n)) (refused notCapture) .number ≤ notCapture
+    by true = omega (arith, demand1 (inputIn s n) [] .most)
+    by false = omega arith

@@ -117,3 +117,7 @@ captureAnswer s places = cond (all (captureTests s)) (answerOf (inputIn s places
 -- the page list, when the check has answered
 unfoldable pub capturePlaces : List ℕ → List ℕ → List ℕ
 capturePlaces s places = cond (all (captureTests s)) (placesOf (inputIn s (length places)) places) places
+
+-- no number is over 30
+abbrev pub NumberMost : Type 0
+NumberMost = (s : List ℕ) (places : ℕ) → captureAnswer s places .number ≤ notCapture

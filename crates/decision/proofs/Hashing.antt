@@ -11,7 +11,7 @@ use Rattle.policy.specs.Grammar.{Signing, PolicyList}
 use Rattle.policy.specs.Grammar as Grammar
 use Rattle.policy.specs.Demand3.{seenList, listPart}
 use Rattle.policy.proofs.Standing as kinds
-use Rattle.policy.proofs.Walk.{Turn, list-seen}
+use Rattle.policy.proofs.Walk.{Front, list-seen}
 use Rattle.decision.specs.Lists.{measuredBytes, measure, hashOf}
 use Rattle.decision.specs.Inner.{measuredIn, measuredSeen}
 
@@ -21,7 +21,7 @@ measured-is l Grammar.unsigned = refl
 measured-is l (Grammar.signed g) = refl
 
 -- the digest of it is the list's measure
-pub measure-is : (s : List ℕ) (at : ℕ) (Kept : List PolicyList → Type 0) (e : ListAnswer) (t : Turn kinds.list s at Kept e) (b d : List ℕ)
+pub measure-is : (s : List ℕ) (at : ℕ) (Kept : List PolicyList → Type 0) (e : ListAnswer) (t : Front kinds.list s at Kept e) (b d : List ℕ)
     → b ≡ measuredSeen (seenList s e) → d ≡ sha256 b → d ≡ measure (t .first)
 unfolding measure
 measure-is s at Kept e t b d p q =

@@ -13,7 +13,7 @@ use Rattle.policy.specs.Grammar as Grammar
 use Rattle.policy.specs.Answers.{signingShown}
 use Rattle.policy.specs.Demand3.{seenElement}
 use Rattle.policy.proofs.Standing as kinds
-use Rattle.policy.proofs.Walk.{Turn, element-seen, elements-within, elements-stand}
+use Rattle.policy.proofs.Walk.{Front, element-seen, elements-within, elements-stand}
 use Rattle.decision.specs.declared.Criteria.{Criteria}
 use Rattle.decision.specs.Lists.{every, any, judged, names, permits}
 use Rattle.decision.specs.Inner.{judgedAnswer, namesSeen, Counted, ElementsStand, ListStands}
@@ -30,31 +30,31 @@ module _ (k : Criteria) (es : List Element) where
   judging-end found h = sym (h .same ∙ or-false found)
 
   -- one element, by the answers for it
-  module _ (t : List ℕ) (at : ℕ) (found : Bool) (e : ElementAnswer) (turn : Turn kinds.element t at (Judging k es found) e) where
+  module _ (t : List ℕ) (at : ℕ) (found : Bool) (e : ElementAnswer) (front : Front kinds.element t at (Judging k es found) e) where
     pub fits : Counted e
-    fits = rw (turn .shown) (counted-is at (turn .first) (turn .valid .0))
+    fits = rw (front .shown) (counted-is at (front .first) (front .valid .0))
 
     module _ (j : Bool) (ej : j ≡ judgedAnswer e) where
-      j-is : j ≡ judged (turn .first)
-      j-is = ej ∙ ap judgedAnswer (turn .shown) ∙ judged-is at (turn .first) (turn .valid .0)
+      j-is : j ≡ judged (front .first)
+      j-is = ej ∙ ap judgedAnswer (front .shown) ∙ judged-is at (front .first) (front .valid .0)
 
       pub unjudged : j ≡ false → false ≡ (every judged es && any (names k) es)
-      unjudged h = sym (turn .kept .same ∙ rw (sym j-is ∙ h))
+      unjudged h = sym (front .kept .same ∙ rw (sym j-is ∙ h))
 
       reorder : (f n a : Bool) → (f || (n || a)) ≡ ((n || f) || a)
       reorder true n a = rw (or-true n)
       reorder false n a = rw (or-false n)
 
       pub judging-step : j ≡ true → (n : Bool) → n ≡ namesSeen k (seenElement t e) → (found′ : Bool) → found′ ≡ (n || found)
-          → Judging k es found′ (turn .others)
+          → Judging k es found′ (front .others)
       judging-step h n en found′ ef =
-          let x = turn .first in
-          let n-is : n ≡ names k x = en ∙ ap (namesSeen k) (ap (seenElement t) (turn .shown) ∙ element-seen t at x (turn .others) (turn .valid) (turn .stand)) in
+          let x = front .first in
+          let n-is : n ≡ names k x = en ∙ ap (namesSeen k) (ap (seenElement t) (front .shown) ∙ element-seen t at x (front .others) (front .valid) (front .stand)) in
           record {
             same =
-                turn .kept .same
+                front .kept .same
                 ∙ rw (sym j-is ∙ h, ← n-is, ef)
-                (ap (λ (b : Bool). every judged (turn .others) && b) (reorder found n (any (names k) (turn .others))));
+                (ap (λ (b : Bool). every judged (front .others) && b) (reorder found n (any (names k) (front .others))));
           }
 
 -- A LIST

@@ -9,7 +9,7 @@ use Rattle.policy.specs.declared.ListAnswer.{ListAnswer}
 use Rattle.policy.specs.Grammar.{PolicyList, Reading}
 use Rattle.policy.specs.Decode.{accepted}
 use Rattle.policy.proofs.Standing as kinds
-use Rattle.policy.proofs.Walk.{Turn}
+use Rattle.policy.proofs.Walk.{Front}
 use Rattle.decision.specs.declared.Criteria.{Criteria}
 use Rattle.decision.specs.Lists.{isSome, ofGrammar, permits, noList, lowestFrom, lowestPermitting}
 use Rattle.decision.specs.Inner.{ListStands}
@@ -17,7 +17,7 @@ use Rattle.decision.specs.Inner.{ListStands}
 pub record Lowest (k : Criteria) (all : List PolicyList) (i : ℕ) (rest : List PolicyList) : Type 0 where
   pub same : lowestFrom 0 (permits k) all ≡ lowestFrom i (permits k) rest
 
-pub list-stands : (s : List ℕ) (at : ℕ) (Kept : List PolicyList → Type 0) (e : ListAnswer) (t : Turn kinds.list s at Kept e) → ListStands s e (t .first)
+pub list-stands : (s : List ℕ) (at : ℕ) (Kept : List PolicyList → Type 0) (e : ListAnswer) (t : Front kinds.list s at Kept e) → ListStands s e (t .first)
 list-stands s at Kept e t = record { at = at; others = t .others; valid = t .valid; stand = t .stand; shown = t .shown }
 
 module _ (k : Criteria) (all : List PolicyList) where
@@ -28,7 +28,7 @@ module _ (k : Criteria) (all : List PolicyList) where
   unfolding lowestFrom
   lowest-end i h = sym (h .same)
 
-  module _ (s : List ℕ) (at i : ℕ) (e : ListAnswer) (t : Turn kinds.list s at (Lowest k all i) e) (r : Bool)
+  module _ (s : List ℕ) (at i : ℕ) (e : ListAnswer) (t : Front kinds.list s at (Lowest k all i) e) (r : Bool)
       (is : (x : PolicyList) → ListStands s e x → r ≡ permits k i x) where
     r-is : r ≡ permits k i (t .first)
     r-is = is (t .first) (list-stands s at (Lowest k all i) e t)

@@ -11,7 +11,7 @@ use Rattle.rules.specs.Rules.{all}
 use Rattle.sha256.specs.Message.{sha256}
 use Rattle.policy.specs.Grammar.{Body, Launch, Element, Signing, PolicyList, listBytes}
 use Rattle.policy.specs.Grammar as Grammar
-use Rattle.policy.specs.Answers.{listsIn}
+use Rattle.policy.specs.Answers.{listsIn, leastFile, largestFile}
 use Rattle.policy.specs.Decode.{accepted}
 use Rattle.decision.specs.declared.Criteria.{Criteria}
 use Rattle.decision.specs.Record.{policyHash, sha256Alg}
@@ -26,12 +26,6 @@ any test [] = false
 any test (x ∷ xs) = test x || any test xs
 
 -- 26. "policy file not wholly in the window, or its size not 36 to 65,536"
-abbrev pub leastFile : ℕ
-leastFile = 36
-
-abbrev pub largestFile : ℕ
-largestFile = 65536
-
 -- w is the window, which begins at `window`; the file has `size` bytes at `base`
 unfoldable pub filePlaced : List ℕ → ℕ → ℕ → ℕ → List Bool
 filePlaced w window base size =

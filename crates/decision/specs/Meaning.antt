@@ -13,11 +13,12 @@ use Rattle.rules.specs.Meaning.{Meaning, meaning, AllSay, FirstBroken}
 use Rattle.sha256.specs.Message.{sha256}
 use Rattle.policy.specs.Grammar.{Launch, Element, PolicyList, Reading, Makes}
 use Rattle.policy.specs.Grammar as Grammar
+use Rattle.policy.specs.Answers.{leastFile, largestFile}
 use Rattle.decision.specs.declared.Criteria.{Criteria}
 use Rattle.decision.specs.declared.RecordAnswer.the-variants as answers
 use Rattle.decision.specs.Record.{recordSize, versionHigh, knownVersion, hashAlg, sha256Alg, policyType, LIST, ANY, sinitMinVersion, control, policyHash, recordTests, worthyOrAllowed, versionReached}
 use Rattle.decision.specs.Answers.{recordOf}
-use Rattle.decision.specs.Lists.{leastFile, largestFile, filePlaced, ofGrammar, listsOf, measure, hashMatches, launchType, customType, judged, names, somePermits, noList, lowestPermitting}
+use Rattle.decision.specs.Lists.{filePlaced, ofGrammar, listsOf, measure, hashMatches, launchType, customType, judged, names, somePermits, noList, lowestPermitting}
 
 -- 23
 pub record Record (r : List ℕ) : Type 0 where

@@ -4,18 +4,14 @@ ghost use mathlib.Core.Path.{_≡_};
 ghost use Rattle.rules.specs.Rules.{all};
 ghost use Rattle.decision.specs.Lists.{filePlaced, fileOf};
 
-const LEAST_FILE: u64 = 36;
-
-const LARGEST_FILE: u64 = 65536;
-
 // Whether a file of `size` bytes at `base` is of a size that is read and wholly in the window w, which begins at `window`.
 pub fn file_placed(w: &[u8], window: u64, base: u64, size: u64) -> bool
     ensures { λ r. ⌜ r ≡ all (filePlaced (now (w .entry)) window base size) ⌝ }
 {
-    if size < LEAST_FILE {
+    if size < policy::LEAST_FILE as u64 {
         return false;
     }
-    if LARGEST_FILE < size {
+    if (policy::LARGEST_FILE as u64) < size {
         return false;
     }
     let whole = Range {

@@ -71,19 +71,19 @@ module _ (s : List ℕ) where
   one-more k r e z j l = below-more _ k r (record { element = is-element e; other = eqb-false _ _ z }) j (omega arith)
 
   -- the element number k, with what follows from it where it is skipped
-  turn : (n k : ℕ) → Reached s k → elementAt s (placeOf s k) ≡ true
+  step : (n k : ℕ) → Reached s k → elementAt s (placeOf s k) ≡ true
       → (Reached s (suc k) → endsWithin n s (placeOf s k + sizeAt s (placeOf s k)) ≡ true → ElementsEnd s) → (t : Bool)
       → eqb (typeAt s (placeOf s k)) 0 ≡ t
       → cond t (eqb (sizeAt s (placeOf s k)) 8) (endsWithin n s (placeOf s k + sizeAt s (placeOf s k))) ≡ true → ElementsEnd s
-  turn n k r e rest true z q = record { last = k; earlier = r; element = is-element e; kind = eqb-true _ _ z; size = eqb-true _ _ q }
-  turn n k r e rest false z q = rest (one-more k r e z) q
+  step n k r e rest true z q = record { last = k; earlier = r; element = is-element e; kind = eqb-true _ _ z; size = eqb-true _ _ q }
+  step n k r e rest false z q = rest (one-more k r e z) q
 
   found : (n k : ℕ) → Reached s k → endsWithin n s (placeOf s k) ≡ true → ElementsEnd s
   unfolding endsWithin placeOf
   found zero k r e = absurd (false≢true e)
   found (suc n) k r e =
       let p = and-eq-true-iff (elementAt s (placeOf s k)) _ .0 e in
-      turn n k r (p .0) (found n (suc k)) (eqb (typeAt s (placeOf s k)) 0) refl (p .1)
+      step n k r (p .0) (found n (suc k)) (eqb (typeAt s (placeOf s k)) 0) refl (p .1)
 
   pub elements-exactly : (elementsEnd s ≡ true) ↔ ElementsEnd s
   unfolding placeOf

@@ -8,6 +8,7 @@ use native.Mathlib.Omega.{arith}
 use borrow.Author.Tests.{eqb-false, ne-eqb}
 use lib.Dec.{lit<, leb, eqb}
 use lib.ListN.{length}
+use Rattle.range.specs.Range.{highestEnd}
 use Rattle.range.proofs.Ranges.{ends-exactly}
 use Rattle.rules.specs.Rules.{firstFailing}
 use Rattle.rules.proofs.Tests.{eqb-exactly, leb-exactly, or-exactly, and-exactly, _&_}
@@ -15,7 +16,7 @@ use Rattle.rules.proofs.Meaning.{Agree, agrees}
 use Rattle.rules.proofs.Answers.{number-of, value-exactly, number-exactly, all-mean, number-means}
 use Rattle.heap.specs.declared.OsSinitData.{OsSinitData}
 use Rattle.heap.specs.declared.HeapAnswer.the-variants.{OsSinit, Refused}
-use Rattle.heap.specs.Heap.{osSinitPart, leastPart, versionKnown, lowLimit, highLimit, lowPlaced, highPlaced, pmrsPlaced, lowPmr, highPmr, heapRules, numberOf, heapFields, heapElements, heapOf}
+use Rattle.heap.specs.Heap.{osSinitPart, leastPart, versionKnown, lowLimit, lowPlaced, highPlaced, pmrsPlaced, lowPmr, highPmr, heapRules, numberOf, heapFields, heapElements, heapOf}
 use Rattle.heap.specs.Meaning.{Supported, PmrsPlaced, HeapHolds, heapMeanings, AcceptedExactly, RefusedExactly}
 use Rattle.heap.proofs.Sizes.{parts-exactly}
 use Rattle.heap.proofs.Elements.{elements-exactly}
@@ -39,7 +40,7 @@ pmrs-exactly : (o : OsSinitData) → (pmrsPlaced o ≡ true) ↔ PmrsPlaced o
 unfolding pmrsPlaced lowPlaced highPlaced
 pmrs-exactly o =
     let low = used-exactly (lowPmr o .size) _ (ends-exactly (lowPmr o) lowLimit) in
-    let high = used-exactly (highPmr o .size) _ (and-exactly (leb-exactly _ _) (ends-exactly (highPmr o) highLimit)) in
+    let high = used-exactly (highPmr o .size) _ (and-exactly (leb-exactly _ _) (ends-exactly (highPmr o) highestEnd)) in
     let both = and-exactly low high in
     (λ e. let p = both .0 e in record { low = p .0; high = p .1 }, λ p. both .1 (p .low, p .high))
 

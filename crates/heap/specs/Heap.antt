@@ -6,7 +6,7 @@ use lib.Dec.{leb, eqb}
 use lib.ListN.{length, take, drop}
 use Rattle.field.specs.Field.{numberAt}
 use Rattle.range.specs.declared.Range.{Range}
-use Rattle.range.specs.Range.{endsBy}
+use Rattle.range.specs.Range.{endsBy, highestEnd}
 use Rattle.rules.specs.Rules.{Rule, rule, answerBy}
 use Rattle.heap.specs.declared.OsSinitData.{OsSinitData}
 use Rattle.heap.specs.declared.HeapAnswer.{HeapAnswer}
@@ -106,16 +106,13 @@ unused pmr = eqb (pmr .size) 0
 abbrev pub lowLimit : ℕ
 lowLimit = 2 ^ 32
 
-abbrev pub highLimit : ℕ
-highLimit = 2 ^ 52
-
 -- "A used low one ends at or below 2^32;"
 unfoldable pub lowPlaced : Range → Bool
 lowPlaced pmr = unused pmr || endsBy pmr lowLimit
 
 -- "a used high one begins at or above 2^32 and ends at or below 2^52"
 unfoldable pub highPlaced : Range → Bool
-highPlaced pmr = unused pmr || (leb lowLimit (pmr .base) && endsBy pmr highLimit)
+highPlaced pmr = unused pmr || (leb lowLimit (pmr .base) && endsBy pmr highestEnd)
 
 abbrev pub lowPmr : OsSinitData → Range
 lowPmr o = record { base = o .«pmr_low_base»; size = o .«pmr_low_size» }

@@ -4,11 +4,11 @@ use mathlib.Core.Path.{_≡_}
 use mathlib.Core.Logic.{_↔_, _⊎_}
 use mathlib.Core.List.{List, [], _∷_}
 use lib.ListN.{length}
-use Rattle.range.specs.Range.{endOf}
+use Rattle.range.specs.Range.{endOf, highestEnd}
 use Rattle.rules.specs.Meaning.{Meaning, meaning, FirstBroken}
 use Rattle.heap.specs.declared.OsSinitData.{OsSinitData}
 use Rattle.heap.specs.declared.HeapAnswer.the-variants.{OsSinit, Refused}
-use Rattle.heap.specs.Heap.{biosDataSize, osMleDataSize, osSinitDataAt, osSinitDataSize, leastSize, osSinitPart, leastPart, heapFields, heapElements, typeAt, sizeAt, lowPmr, highPmr, lowLimit, highLimit, heapOf}
+use Rattle.heap.specs.Heap.{biosDataSize, osMleDataSize, osSinitDataAt, osSinitDataSize, leastSize, osSinitPart, leastPart, heapFields, heapElements, typeAt, sizeAt, lowPmr, highPmr, lowLimit, heapOf}
 
 -- rule 2
 pub record PartsFit (heap : List ℕ) : Type 0 where
@@ -48,7 +48,7 @@ pub record ElementsEnd (s : List ℕ) : Type 0 where
 -- rule 5
 pub record PmrsPlaced (o : OsSinitData) : Type 0 where
   pub low : 0 < lowPmr o .size → endOf (lowPmr o) ≤ lowLimit
-  pub high : 0 < highPmr o .size → (lowLimit ≤ highPmr o .base) × (endOf (highPmr o) ≤ highLimit)
+  pub high : 0 < highPmr o .size → (lowLimit ≤ highPmr o .base) × (endOf (highPmr o) ≤ highestEnd)
 
 -- every rule holds
 pub record HeapHolds (heap : List ℕ) : Type 0 where

@@ -49,9 +49,6 @@ const END_SIZE: u64 = 8;
 // Where the low PMR ends at the latest, and the high PMR begins at the earliest.
 const LOW_LIMIT: u64 = 0x1_0000_0000;
 
-// Where the high PMR ends at the latest.
-const HIGH_LIMIT: u64 = 0x10_0000_0000_0000;
-
 // Whether a size is at least 8, and as many bytes from `at` on end at or before `end`.
 fn size_fits(at: usize, size: u64, end: usize) -> bool
     ensures { λ r. ⌜ r ≡ sizeFits at size end ⌝ }
@@ -116,7 +113,7 @@ fn low_placed(pmr: Range) -> bool
 fn high_placed(pmr: Range) -> bool
     ensures { λ r. ⌜ r ≡ highPlaced pmr ⌝ }
 {
-    pmr.size == 0 || LOW_LIMIT <= pmr.base && range::ends_by(pmr, HIGH_LIMIT)
+    pmr.size == 0 || LOW_LIMIT <= pmr.base && range::ends_by(pmr, range::HIGHEST_END)
 }
 
 // Whether each PMR is unused or in its place.

@@ -13,8 +13,9 @@ use Rattle.field.proofs.Laws.{bytes-drop, bytes-take}
 use Rattle.rules.specs.Rules.{Rule, all, firstFailing}
 use Rattle.rules.proofs.Rules.{rule-exactly}
 use Rattle.policy.specs.Grammar.{Reading, Makes}
+use Rattle.policy.specs.Answers.{largestFile}
 use Rattle.decision.specs.Record.{policyType, LIST}
-use Rattle.decision.specs.Lists.{largestFile, filePlaced, fileOf, ofGrammar}
+use Rattle.decision.specs.Lists.{filePlaced, fileOf, ofGrammar}
 use Rattle.decision.specs.Meaning as decision
 use Rattle.decision.proofs.Conditions.{record-exactly, worthy-or-allowed-exactly, reached-exactly, placed-exactly, hash-exactly}
 use Rattle.decision.proofs.Readings.{grammar-exactly}

@@ -5,11 +5,12 @@ use mathlib.Core.Path.{_≡_}
 use mathlib.Core.Logic.{_↔_, _≢_}
 use mathlib.Core.List.{List, flatMap}
 use lib.ListN.{length, take, drop, getD}
+use Rattle.range.specs.Range.{pageSize}
 use Rattle.field.specs.Number.{Bytes}
 use Rattle.sha256.specs.Message.{sha256}
 use Rattle.pages.specs.declared.Kind.the-variants.{Page}
 use Rattle.pages.specs.Entry.{addressOf}
-use Rattle.pages.specs.Memory.{pageSize, pageOf, windowOf, regions}
+use Rattle.pages.specs.Memory.{pageOf, windowOf, regions}
 use Rattle.pages.specs.Meaning.{Within, Apart, Some, entry}
 use Rattle.policy.specs.Grammar.{Reading, Makes}
 use Rattle.decision.specs.Record.{policyType, LIST, ANY}

@@ -3,11 +3,11 @@ use Prim.Native.Nat.{ℕ, _+_, _%_, _≤_}
 use mathlib.Core.Path.{_≡_}
 use mathlib.Core.List.{List}
 use lib.ListN.{length}
-use Rattle.range.specs.Range.{endOf}
+use Rattle.range.specs.Range.{endOf, highestEnd, pageSize}
 use Rattle.heap.specs.Heap.{heapElements}
 use Rattle.heap.specs.Meaning as heap
 use Rattle.sinit.specs.Meaning as sinit
-use Rattle.pages.specs.Memory.{pageSize, windowOf}
+use Rattle.pages.specs.Memory.{windowOf}
 use Rattle.pages.specs.Meaning.{Walks}
 use Rattle.mle.specs.declared.Image.{Image}
 use Rattle.mle.specs.Header.{pagesOf}
@@ -17,7 +17,7 @@ use Rattle.decision.specs.Record.{policyType, LIST}
 use Rattle.decision.specs.Meaning as decision
 use Rattle.launch.specs.declared.Platform.{Platform}
 use Rattle.launch.specs.declared.Found.{Found}
-use Rattle.launch.specs.Rules.{Input, mostWindow, mostHeap, highestEnd, dprRange, chipsetOf, foundOf, os, moduleData, memory, policyFile, criteria}
+use Rattle.launch.specs.Rules.{Input, mostWindow, mostHeap, dprRange, chipsetOf, foundOf, os, moduleData, memory, policyFile, criteria}
 
 -- 1
 pub record PlatformHolds (window heap : List ℕ) (p : Platform) : Type 0 where

@@ -6,7 +6,7 @@ use mathlib.Core.List.{List, [], _∷_, _++_}
 use lib.Dec.{leb, eqb}
 use lib.ListN.{length}
 use Rattle.range.specs.declared.Range.{Range}
-use Rattle.range.specs.Range.{endsBy}
+use Rattle.range.specs.Range.{endsBy, highestEnd, pageSize}
 use Rattle.rules.specs.Rules.{Rule, rule, all}
 use Rattle.heap.specs.declared.OsSinitData.{OsSinitData}
 use Rattle.heap.specs.Heap.{heapRules, heapFields, lowPmr, highPmr}
@@ -14,7 +14,7 @@ use Rattle.sinit.specs.declared.Chipset.{Chipset}
 use Rattle.sinit.specs.declared.ModuleData.{ModuleData}
 use Rattle.sinit.specs.Rules as sinit
 use Rattle.pages.specs.declared.Memory.{Memory}
-use Rattle.pages.specs.Memory.{pageSize, windowOf}
+use Rattle.pages.specs.Memory.{windowOf}
 use Rattle.pages.specs.Rules.{walkRules, endState}
 use Rattle.mle.specs.declared.Image.{Image}
 use Rattle.mle.specs.Image.{imageDigest}
@@ -62,9 +62,6 @@ mostWindow = 32 * 2 ^ 20
 
 abbrev pub mostHeap : ℕ
 mostHeap = 2 ^ 20
-
-abbrev pub highestEnd : ℕ
-highestEnd = 2 ^ 52
 
 -- 1. "window base no multiple of 4096; window over 32 MiB; heap over 1 MiB; base plus size of window, heap or DPR over 2^52"
 unfoldable pub platformTests : List ℕ → List ℕ → Platform → List Bool

@@ -7,27 +7,24 @@ use heap::OsSinitData;
 use mle::Image;
 use pages::Memory;
 use pages::WalkAnswer;
+use range::HIGHEST_END;
+use range::PAGE_SIZE;
 use range::Range;
 use sinit::Chipset;
 use sinit::ModuleAnswer;
 use sinit::ModuleData;
 ghost use mathlib.Core.Path.{_≡_};
 ghost use Rattle.rules.specs.Rules.{all};
-ghost use Rattle.range.specs.Range.{endsBy};
+ghost use Rattle.range.specs.Range.{endsBy, highestEnd};
 ghost use mathlib.Core.List.{List};
 ghost use Prim.Native.Nat.{ℕ};
-ghost use Rattle.launch.specs.Rules.{inputOf, highestEnd, platformTests, memoryFrom, chipsetOf, foundOf};
+ghost use Rattle.launch.specs.Rules.{inputOf, platformTests, memoryFrom, chipsetOf, foundOf};
 ghost use Rattle.launch.specs.Inner.{imageStage, pageStage, findStage};
-
-const PAGE_SIZE: u64 = 4096;
 
 // The most bytes of a window and of a heap.
 const MOST_WINDOW: usize = 0x200_0000;
 
 const MOST_HEAP: usize = 0x10_0000;
-
-// The highest end of a range of memory.
-const HIGHEST_END: u64 = 0x10_0000_0000_0000;
 
 fn ends(base: u64, size: u64) -> bool
     ensures { λ r. ⌜ r ≡ endsBy (record { base = base; size = size }) highestEnd ⌝ }

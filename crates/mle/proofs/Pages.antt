@@ -10,9 +10,9 @@ use borrow.Author.Tests.{leb-true, leb-false, le-leb, lt-leb}
 use lib.Dec.{leb}
 use lib.ListN.{length, take, drop, getD, set, length-append, length-take, length-drop, List·getD-append}
 use lib.Seq.{take-at, drop-at, drop-cons, drop-drop, getD-append-add, getD-drop, set-at}
-use Rattle.range.specs.Range.{insideOf}
+use Rattle.range.specs.Range.{insideOf, pageSize}
 use Rattle.range.proofs.Ranges.{inside-bounds}
-use Rattle.pages.specs.Memory.{pageSize, pageOf, windowOf}
+use Rattle.pages.specs.Memory.{pageOf, windowOf}
 use Rattle.mle.specs.declared.Image.{Image}
 use Rattle.mle.specs.Image.{addressAt, bytesAt, addressesFrom, bytesFrom, pageList}
 

@@ -4,9 +4,9 @@ use mathlib.Core.Bool.{Bool, _&&_}
 use mathlib.Core.List.{List, [], _∷_}
 use lib.Dec.{leb, ltb, eqb}
 use lib.ListN.{take, drop}
+use Rattle.range.specs.Range.{pageSize}
 use Rattle.field.specs.Field.{numberAt, markedAt}
 use Rattle.rules.specs.Rules.{all}
-use Rattle.pages.specs.Memory.{pageSize}
 use Rattle.mle.specs.declared.Image.{Image}
 use Rattle.mle.specs.Image.{addressAt, bytesAt}
 

@@ -4,10 +4,10 @@ use mathlib.Core.Bool.{cond}
 use mathlib.Core.List.{List, [], _∷_, _++_}
 use lib.Dec.{leb}
 use lib.ListN.{length, take, drop}
-use Rattle.range.specs.Range.{insideOf}
+use Rattle.range.specs.Range.{insideOf, pageSize}
 use Rattle.sha256.specs.Message.{sha256}
 use Rattle.pages.specs.Entry.{addressOf}
-use Rattle.pages.specs.Memory.{pageSize, pageOf, windowOf}
+use Rattle.pages.specs.Memory.{pageOf, windowOf}
 use Rattle.pages.specs.Tables.{pageAt}
 use Rattle.mle.specs.declared.Image.{Image}
 

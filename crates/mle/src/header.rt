@@ -1,10 +1,10 @@
 // MLE Size, rule 12, and the MLE header, rule 22: where the header stands, and what its fields say.
 use crate::Image;
-use crate::PAGE_SIZE;
 use crate::linear::address;
 use crate::linear::page_bytes;
 use field::marked;
 use field::number_or_zero;
+use range::PAGE_SIZE;
 ghost use mathlib.Core.Path.{_≡_};
 ghost use Rattle.rules.specs.Rules.{all};
 ghost use Rattle.mle.specs.Header.{sizeTests, mapped, placeTests, fieldTests, headerTests};

@@ -7,8 +7,6 @@ pub use header::size_holds;
 pub use linear::digest;
 pub use linear::write_pages;
 
-const PAGE_SIZE: u64 = 4096;
-
 // Where the pages of the MLE are found: where the window begins, the table base, the first linear page, and how many pages there are.
 pub struct Image {
     pub window: u64,

@@ -1,7 +1,7 @@
 // The pages of the MLE in linear order: where each lies, the digest of their bytes, and the page list. No page is copied or stored:
 // each is found again from the tables.
 use crate::Image;
-use crate::PAGE_SIZE;
+use range::PAGE_SIZE;
 use range::Range;
 ghost use mathlib.Core.Path.{_≡_};
 ghost use Rattle.mle.specs.Image.{addressAt, bytesAt, imageDigest, pageList};

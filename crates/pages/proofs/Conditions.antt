@@ -6,7 +6,7 @@ use mathlib.Core.Bool.{true, false≢true}
 use mathlib.Core.List.{List, [], _∷_, _++_}
 use lib.Dec.{lit<}
 use Rattle.range.specs.declared.Range.{Range}
-use Rattle.range.specs.Range.{insideOf, clearOf}
+use Rattle.range.specs.Range.{insideOf, clearOf, pageSize}
 use Rattle.rules.specs.Rules.{Rule, AllHold}
 use Rattle.rules.specs.Meaning.{Meaning, AllSay}
 use Rattle.rules.proofs.Meaning.{Agree, all-say, agrees}
@@ -17,7 +17,7 @@ use Rattle.pages.specs.declared.Kind.the-variants.{Pointer, Directory, P
 use Rattle.pages.specs.declared.Memory.{Memory}
 use Rattle.pages.specs.declared.levels.State.{State}
 use Rattle.pages.specs.Entry.{addressOf}
-use Rattle.pages.specs.Memory.{pageSize, pageOf, windowOf, forbidden, regions, every, some, allowed, protected}
+use Rattle.pages.specs.Memory.{pageOf, windowOf, forbidden, regions, every, some, allowed, protected}
 use Rattle.pages.specs.Tables.{Found, found}
 use Rattle.pages.specs.Rules.{startOf, afterEntry, baseRules, ownRules, entryRules, rulesFrom, walkRules}
 use Rattle.pages.specs.Meaning.{Within, Apart, Every, Some, Reserved, Placed, baseMeanings, ownMeanings, entryMeanings, meaningsFrom, walkMeanings}

@@ -7,6 +7,7 @@ use mathlib.Core.List.{List}
 use native.Mathlib.Omega.{arith}
 use borrow.Author.Tests.{ltb-true, ltb-false}
 use lib.Dec.{ltb}
+use Rattle.range.specs.Range.{pageSize}
 use Rattle.rules.specs.Rules.{firstFailing}
 use Rattle.rules.proofs.Rules.{all-exactly}
 use Rattle.rules.proofs.Answers.{number-of, value-exactly, number-exactly, number-means}
@@ -16,7 +17,7 @@ use Rattle.pages.specs.declared.Memory.{Memory}
 use Rattle.pages.specs.declared.levels.State.{State}
 use Rattle.pages.specs.declared.WalkAnswer.the-variants.{Mapped, Refused}
 use Rattle.pages.specs.Entry.{addressOf}
-use Rattle.pages.specs.Memory.{pageSize, pageOf}
+use Rattle.pages.specs.Memory.{pageOf}
 use Rattle.pages.specs.Tables.{levelSize}
 use Rattle.pages.specs.Rules.{walkRules, endState, answerOf, walkOf, numberOf}
 use Rattle.pages.specs.Meaning.{Apart, position, entry, Present, named, Walks, walkMeanings, MappedExactly, RefusedExactly, FoundByWalk}

@@ -5,7 +5,7 @@ use mathlib.Core.Logic.{_↔_, _⊎_, _≢_}
 use mathlib.Core.Bool.{true, cond}
 use mathlib.Core.List.{List, [], _∷_, _++_}
 use Rattle.range.specs.declared.Range.{Range}
-use Rattle.range.specs.Range.{Has}
+use Rattle.range.specs.Range.{Has, pageSize}
 use Rattle.rules.specs.Meaning.{Meaning, meaning, FirstBroken}
 use Rattle.pages.specs.declared.Memory.{Memory}
 use Rattle.pages.specs.declared.Kind.{Kind}
@@ -13,7 +13,7 @@ use Rattle.pages.specs.declared.Kind.the-variants.{Pointer, Directory, P
 use Rattle.pages.specs.declared.WalkAnswer.the-variants.{Mapped, Refused}
 use Rattle.pages.specs.declared.levels.State.{State}
 use Rattle.pages.specs.Entry.{presentOf, addressOf}
-use Rattle.pages.specs.Memory.{pageSize, pageOf, windowOf, forbidden, regions}
+use Rattle.pages.specs.Memory.{pageOf, windowOf, forbidden, regions}
 use Rattle.pages.specs.Tables.{entryAt, levelSize, Found, found}
 use Rattle.pages.specs.Rules.{mostTables, startOf, afterEntry, walkOf}
 

@@ -4,11 +4,8 @@ use mathlib.Core.Bool.{Bool, true, false, _&&_, _||_}
 use mathlib.Core.List.{List, [], _∷_}
 use lib.ListN.{length}
 use Rattle.range.specs.declared.Range.{Range}
-use Rattle.range.specs.Range.{insideOf, clearOf}
+use Rattle.range.specs.Range.{insideOf, clearOf, pageSize}
 use Rattle.pages.specs.declared.Memory.{Memory}
-
-abbrev pub pageSize : ℕ
-pageSize = 4096
 
 -- "Each stands for 4,096 bytes"
 abbrev pub pageOf : ℕ → Range

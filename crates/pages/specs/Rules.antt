@@ -4,7 +4,7 @@ use mathlib.Core.Bool.{Bool, cond, _||_}
 use mathlib.Core.List.{List, [], _∷_, _++_}
 use lib.Dec.{ltb, eqb}
 use Rattle.range.specs.declared.Range.{Range}
-use Rattle.range.specs.Range.{insideOf}
+use Rattle.range.specs.Range.{insideOf, pageSize}
 use Rattle.rules.specs.Rules.{Rule, rule, firstFailing, answerFor}
 use Rattle.pages.specs.declared.Kind.{Kind}
 use Rattle.pages.specs.declared.Kind.the-variants.{Pointer, Directory, Page}
@@ -13,7 +13,7 @@ use Rattle.pages.specs.declared.levels.State.{State}
 use Rattle.pages.specs.declared.WalkAnswer.{WalkAnswer}
 use Rattle.pages.specs.declared.WalkAnswer.the-variants.{Mapped, Refused}
 use Rattle.pages.specs.Entry.{addressOf, reservedClear}
-use Rattle.pages.specs.Memory.{pageSize, pageOf, windowOf, allowed, protected}
+use Rattle.pages.specs.Memory.{pageOf, windowOf, allowed, protected}
 use Rattle.pages.specs.Tables.{Found, found}
 
 -- "a seventeenth table page, the base and directories counted"

@@ -7,7 +7,6 @@ mod tables;
 pub use entry::address;
 pub use entry::present;
 pub use levels::walk;
-pub use placement::PAGE_SIZE;
 use range::Range;
 pub use tables::page;
 

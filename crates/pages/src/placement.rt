@@ -1,11 +1,10 @@
 // What a page of memory is tried for: inside the window, clear of the forbidden ranges, wholly in a protected region.
 use crate::Memory;
+use range::PAGE_SIZE;
 use range::Range;
 ghost use mathlib.Core.Path.{_≡_};
 ghost use Rattle.range.specs.Range.{insideOf};
 ghost use Rattle.pages.specs.Memory.{pageOf, windowOf, allowed, protected};
-
-pub const PAGE_SIZE: u64 = 4096;
 
 // The forbidden range below 1 MiB, 0xA0000 to 0xFFFFF.
 const LOW_BASE: u64 = 0xA0000;

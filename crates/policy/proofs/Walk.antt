@@ -82,7 +82,7 @@ pub record Left (κ : Kind) (s : List ℕ) (at : ℕ) (Kept : List (κ .Value) �
   pub kept : Kept rest
 
 -- the first of what is left, the answer for it, and the next offset
-pub record Turn (κ : Kind) (s : List ℕ) (at : ℕ) (Kept : List (κ .Value) → Type 0) (e : κ .Answer) : Type 0 where
+pub record Front (κ : Kind) (s : List ℕ) (at : ℕ) (Kept : List (κ .Value) → Type 0) (e : κ .Answer) : Type 0 where
   pub first : κ .Value
   pub others : List (κ .Value)
   pub valid : All (κ .Valid) (first ∷ others)
@@ -94,11 +94,11 @@ pub record Turn (κ : Kind) (s : List ℕ) (at : ℕ) (Kept : List (κ .Value) �
   pub next : drop (at + κ .size e) s ≡ flatMap (κ .make) others
 
 module _ (κ : Kind) (s : List ℕ) (at : ℕ) (Kept : List (κ .Value) → Type 0) (left : Left κ s at Kept) where
-  pub turn : (e : κ .Answer) → at < length s → e ≡ κ .shown at (valueOf (κ .parser (drop at s))) → Turn κ s at Kept e
+  pub front : (e : κ .Answer) → at < length s → e ≡ κ .shown at (valueOf (κ .parser (drop at s))) → Front κ s at Kept e
   unfolding flatMap
-  turn e l q = go (left .rest) refl
+  front e l q = go (left .rest) refl
     where
-      go : (xs : List (κ .Value)) → left .rest ≡ xs → Turn κ s at Kept e
+      go : (xs : List (κ .Value)) → left .rest ≡ xs → Front κ s at Kept e
       go [] r =
           let d : drop at s ≡ [] = left .stand ∙ ap (flatMap (κ .make)) r in
           absurd (omega (arith, length-drop at s, ap length d))
@@ -130,6 +130,6 @@ module _ (κ : Kind) (s : List ℕ) (at : ℕ) (Kept : List (κ .Value) → Type
           absurd (omega (arith, walk-within κ s at a xs v d))
 
 -- what is left after a step
-pub onward : (κ : Kind) (s : List ℕ) (at : ℕ) (Kept Next : List (κ .Value) → Type 0) (e : κ .Answer) (t : Turn κ s at Kept e) (z : ℕ)
+pub onward : (κ : Kind) (s : List ℕ) (at : ℕ) (Kept Next : List (κ .Value) → Type 0) (e : κ .Answer) (t : Front κ s at Kept e) (z : ℕ)
     → z ≡ κ .size e → Next (t .others) → Left κ s (at + z) Next
 onward κ s at Kept Next e t z q h = record { rest = t .others; valid = t .valid .1; stand = rw q (t .next); kept = h }

@@ -15,7 +15,7 @@ use Rattle.policy.specs.declared.ElementAnswer.{ElementAnswer}
 use Rattle.policy.specs.declared.ElementAnswer.the-variants.{Launch, Custom, Unjudged, Refused}
 use Rattle.policy_grammar.specs.Grammar.{Body, Element, elementBytes, Signing, PolicyList, listBytes, Reading}
 use Rattle.policy_grammar.specs.Grammar as Grammar
-pub use Rattle.policy_grammar.specs.Decode.{sized}
+pub use Rattle.policy_grammar.specs.Decode.{leastFile, largestFile, sized}
 
 -- a string: 26 where its size is wrong, 27 where it is not of the grammar, and else 0 with the list count
 abbrev pub fileShown : List ℕ → Option Reading → FileAnswer
@@ -83,12 +83,15 @@ elementsIn (some l) = l .elements
 abbrev pub place : {A : Type 0} → (A → List ℕ) → ℕ → List A → ℕ → ℕ
 place f start xs k = start + length (flatMap f (take k xs))
 
--- the lists stand from offset 36 on
+-- the lists stand behind the mark, the zeros and the list count
+abbrev pub firstList : ℕ
+firstList = 36
+
 abbrev pub listIn : ℕ → List PolicyList → ℕ → ListAnswer
 listIn start ls i = listShown (place listBytes start ls i) (getElem? ls i)
 
 abbrev pub listAnswer : Option Reading → ℕ → ListAnswer
-listAnswer o i = listIn 36 (listsIn o) i
+listAnswer o i = listIn firstList (listsIn o) i
 
 abbrev pub keyAnswer : Option Reading → ℕ → PartAnswer
 keyAnswer o i = keyOf (listAnswer o i)
@@ -101,4 +104,4 @@ abbrev pub elementIn : ℕ → List Element → ℕ → ElementAnswer
 elementIn start es j = elementShown (place elementBytes start es j) (getElem? es j)
 
 abbrev pub elementAnswer : Option Reading → ℕ → ℕ → ElementAnswer
-elementAnswer o i j = elementIn (place listBytes 36 (listsIn o) i + 8) (elementsIn (getElem? (listsIn o) i)) j
+elementAnswer o i j = elementIn (place listBytes firstList (listsIn o) i + 8) (elementsIn (getElem? (listsIn o) i)) j

@@ -21,7 +21,7 @@ use Rattle.policy.specs.declared.ElementAnswer.the-variants.{Launch, Cus
 use Rattle.policy_grammar.specs.Grammar.{bodyBytes, Element, elementBytes, ValidElement, digestLength, Signature, Signing, PolicyList, listBytes, ValidList, Reading, Makes}
 use Rattle.policy_grammar.specs.Grammar as Grammar
 use Rattle.policy.specs.Answers.{fileShown, listShown, elementShown, listsIn, elementsIn, listAnswer, keyAnswer, signatureAnswer, elementAnswer}
-use Rattle.policy_grammar.specs.Decode.{accepted, sized}
+use Rattle.policy_grammar.specs.Decode.{accepted, leastFile, largestFile, sized}
 use Rattle.policy.specs.Parts.{partAt, bodyOf}
 
 -- WHAT AN ANSWER SHOWS
@@ -126,8 +126,8 @@ MadeFrom s (some r) = Makes r s
 
 -- o is the reading with which the string is accepted, of 36 to 65,536 bytes; no string of whatever length has two readings
 pub record IsReadingOf (s : List ℕ) (o : Option Reading) : Type 0 where
-  pub made : length s ≤ 65536 → MadeFrom s o
-  pub outside : (length s < 36) ⊎ (65536 < length s) → o ≡ none
+  pub made : length s ≤ largestFile → MadeFrom s o
+  pub outside : (length s < leastFile) ⊎ (largestFile < length s) → o ≡ none
   pub one : (r r′ : Reading) → Makes r s → Makes r′ s → r ≡ r′
 
 -- "26 for a string outside 36 to 65,536 bytes, else 27 or the reading"

@@ -1,23 +1,22 @@
 // The number of a string.
+use crate::FIRST_LIST;
 use crate::FileAnswer;
+use crate::LARGEST_FILE;
+use crate::LEAST_FILE;
 use crate::lists::lists_fill;
 use crate::numbers::number;
 ghost use mathlib.Core.Path.{_≡_};
 ghost use Rattle.policy_grammar.specs.Decode.{accepted};
 ghost use Rattle.policy.specs.Answers.{fileShown};
 
-const SMALLEST: usize = 36;
-
-const LARGEST: usize = 65536;
-
 // What the string s is: of a wrong size, not of the grammar, or accepted with the number of its lists.
 pub fn read(s: &[u8]) -> FileAnswer
     ensures { λ r. ⌜ r ≡ fileShown (now (s .entry)) (accepted (now (s .entry))) ⌝ }
 {
-    if s.len() < SMALLEST {
+    if s.len() < LEAST_FILE {
         return FileAnswer::WrongSize;
     }
-    if LARGEST < s.len() {
+    if LARGEST_FILE < s.len() {
         return FileAnswer::WrongSize;
     }
     if !field::marked(s, 0, b"Intel(R) TXT LCP_POLICY_DATA\0\0\0\0") {
@@ -33,7 +32,7 @@ pub fn read(s: &[u8]) -> FileAnswer
     if 8 < lists {
         return FileAnswer::NotOfGrammar;
     }
-    if !lists_fill(&s[36..], lists) {
+    if !lists_fill(&s[FIRST_LIST..], lists) {
         return FileAnswer::NotOfGrammar;
     }
     FileAnswer::Accepted { lists }

@@ -30,6 +30,11 @@ ghost use Rattle.policy.specs.Demand3.{Answered};
 // The offset of the first list of every file.
 pub const FIRST_LIST: usize = 36;
 
+// The least and the largest size of a file.
+pub const LEAST_FILE: usize = 36;
+
+pub const LARGEST_FILE: usize = 65536;
+
 // What a string is: accepted, with the number of its lists, or refused. `numberOf` of specs/Demand3.antt gives each its number: 0, 26, 27.
 pub enum FileAnswer {
     Accepted { lists: usize },

@@ -24,8 +24,14 @@ unfoldable pub reading : List ℕ → Read Reading
 reading s = read (whole (length s)) s
 
 -- "36 to 65,536 bytes"
+abbrev pub leastFile : ℕ
+leastFile = 36
+
+abbrev pub largestFile : ℕ
+largestFile = 65536
+
 abbrev pub sized : List ℕ → Bool
-sized s = leb 36 (length s) && leb (length s) 65536
+sized s = leb leastFile (length s) && leb (length s) largestFile
 
 -- the reading with which the reader accepts a string, forgetting where the first fault is in one that it refuses
 unfoldable pub accepted : List ℕ → Option Reading

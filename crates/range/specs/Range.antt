@@ -1,8 +1,16 @@
 -- Ranges of physical memory, in whole numbers: no sum wraps. A range is `size` bytes from `base` on, its end not included.
-use Prim.Native.Nat.{ℕ, _+_, _≤_, _<_}
+use Prim.Native.Nat.{ℕ, _+_, _^_, _≤_, _<_}
 use mathlib.Core.Bool.{Bool, _&&_, _||_}
 use lib.Dec.{leb, eqb}
 use Rattle.range.specs.declared.Range.{Range}
+
+-- a page of memory has 4,096 bytes
+abbrev pub pageSize : ℕ
+pageSize = 4096
+
+-- "2^52 is ours": where memory ends at the latest
+abbrev pub highestEnd : ℕ
+highestEnd = 2 ^ 52
 
 abbrev pub endOf : Range → ℕ
 endOf a = a .base + a .size

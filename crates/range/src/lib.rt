@@ -2,6 +2,12 @@
 ghost use mathlib.Core.Path.{_≡_};
 ghost use Rattle.range.specs.Range.{insideOf, clearOf, endsBy};
 
+// The bytes of a page of memory.
+pub const PAGE_SIZE: u64 = 4096;
+
+// Where memory ends at the latest.
+pub const HIGHEST_END: u64 = 0x10_0000_0000_0000;
+
 // `size` bytes from `base` on.
 pub struct Range {
     pub base: u64,

@@ -5,11 +5,12 @@ use mathlib.Core.Logic.{_↔_}
 use mathlib.Core.List.{List, [], _∷_}
 use lib.Bits.{bitAnd}
 use lib.ListN.{length, take, drop}
+use Rattle.range.specs.Range.{pageSize}
 use Rattle.rules.specs.Meaning.{Meaning, meaning, FirstBroken}
 use Rattle.sinit.specs.declared.Chipset.{Chipset}
 use Rattle.sinit.specs.declared.ModuleData.{ModuleData}
 use Rattle.sinit.specs.declared.ModuleAnswer.the-variants.{Module, Refused}
-use Rattle.sinit.specs.Module.{pageSize, lengthUnit, highestEnd, editionOf}
+use Rattle.sinit.specs.Module.{lengthUnit, highestEnd, editionOf}
 use Rattle.sinit.specs.Module.{type, chipsetModule, headerLen, version, vendor, intel, size, keySize}
 use Rattle.sinit.specs.Module.{E, gdtLimit, gdtLimitEnd, gdtBasePtr, entryPoint, segSel, descriptorSize, secondEnd}
 use Rattle.sinit.specs.Module.{tableSize, uuid, tableType, sinitTable, tableLength, chipsetList, osSinitDataVer}

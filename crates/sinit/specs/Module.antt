@@ -8,9 +8,6 @@ use Rattle.sinit.specs.declared.header.Edition.{Edition}
 
 -- THE PLACE. "Base a multiple of 4096; length a multiple of 64, at least 704, at most the ACRAM capacity; base plus length at most 2^32−1."
 
-abbrev pub pageSize : ℕ
-pageSize = 4096
-
 abbrev pub lengthUnit : ℕ
 lengthUnit = 64
 

@@ -6,13 +6,13 @@ use lib.Bits.{bitAnd}
 use lib.Dec.{leb, ltb, eqb}
 use lib.ListN.{length}
 use Rattle.field.specs.Field.{markedAt}
-use Rattle.range.specs.Range.{insideOf, endsBy}
+use Rattle.range.specs.Range.{insideOf, endsBy, pageSize}
 use Rattle.rules.specs.Rules.{Rule, rule, all, answerBy}
 use Rattle.sinit.specs.declared.Chipset.{Chipset}
 use Rattle.sinit.specs.declared.ModuleData.{ModuleData}
 use Rattle.sinit.specs.declared.ModuleAnswer.{ModuleAnswer}
 use Rattle.sinit.specs.declared.ModuleAnswer.the-variants.{Module, Refused}
-use Rattle.sinit.specs.Module.{pageSize, lengthUnit, highestEnd, editionOf}
+use Rattle.sinit.specs.Module.{lengthUnit, highestEnd, editionOf}
 use Rattle.sinit.specs.Module.{type, chipsetModule, headerLen, version, flags, vendor, intel, size, keySize}
 use Rattle.sinit.specs.Module.{E, gdtLimit, gdtLimitEnd, gdtBasePtr, entryPoint, segSel, descriptorSize, secondEnd}
 use Rattle.sinit.specs.Module.{tableSize, uuid, tableType, sinitTable, tableLength, chipsetList, osSinitDataVer, minMleHeaderVer, acmVersion}

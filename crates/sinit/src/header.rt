@@ -1,5 +1,6 @@
 // The module's place and header, its GDT and its entry point: rules 6, 7 and 8.
 use field::number_or_zero;
+use range::PAGE_SIZE;
 use range::Range;
 ghost use mathlib.Core.Path.{_≡_};
 ghost use Prim.Native.Nat.{_<_, _^_};
@@ -7,8 +8,6 @@ ghost use Rattle.sinit.specs.Module.{headerLen, gdtLimit, E, first, edit
 ghost use Rattle.sinit.specs.Module as spec;
 ghost use Rattle.rules.specs.Rules.{all};
 ghost use Rattle.sinit.specs.Rules.{place, header, gdt, entry, selector};
-
-const PAGE_SIZE: u64 = 4096;
 
 const LENGTH_UNIT: u64 = 64;
 

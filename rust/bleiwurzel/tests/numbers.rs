@@ -34,7 +34,7 @@ const NUMBERS: &[Number] = &[
     },
     Number {
         value: HIGHEST_END,
-        rattle: &["launch::HIGHEST_END", "launch::highestEnd", "heap::HIGH_LIMIT", "heap::highLimit"],
+        rattle: &["range::HIGHEST_END", "range::highestEnd"],
         macros: &[],
         said: |n| vec![format!("over 2^{}.", n.trailing_zeros()), format!("the high one ends above 2^{}.", n.trailing_zeros())],
     },
@@ -66,13 +66,13 @@ const NUMBERS: &[Number] = &[
     },
     Number {
         value: policy::LEAST as u64,
-        rattle: &["LEAST_FILE", "leastFile", "policy::SMALLEST"],
+        rattle: &["LEAST_FILE", "leastFile"],
         macros: &["BLEIWURZEL_LEAST_POLICY"],
         said: |n| vec![format!("its size is not {n} to"), format!("it does not have {n} to")],
     },
     Number {
         value: policy::MOST as u64,
-        rattle: &["LARGEST_FILE", "largestFile", "policy::LARGEST"],
+        rattle: &["LARGEST_FILE", "largestFile"],
         macros: &["BLEIWURZEL_MOST_POLICY"],
         said: |n| vec![format!("its size is not 36 to {n} bytes"), format!("it does not have 36 to {n} bytes")],
     },

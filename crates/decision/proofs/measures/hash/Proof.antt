@@ -4,7 +4,7 @@ use mathlib.Core.Path.{_∙_}
 use native.Mathlib.Omega.{arith}
 use lib.ListN.{length}
 use Rattle.policy.proofs.Standing as kinds
-use Rattle.policy.proofs.Walk.{Left, turn, onward, ended}
+use Rattle.policy.proofs.Walk.{Left, front, onward, ended}
 use Rattle.decision.specs.Lists.{listsOf}
 use Rattle.decision.proofs.Walking.{starts}
 use Rattle.decision.proofs.Hashing.{measure-is, Hashing, hashing-start, hashing-step, hashing-end}
@@ -48,21 +48,21 @@ add-at : tie.Need-add-at Inv-loop μ-loop
 add-at c =
     let at-list = c .before .before .before .before .before in
     let l = at-list .before .before .loop in
-    let t = turn kinds.list _ _ _ (l .inv) _ (at-list .before .loop-test .taken) (at-list .list-at .ensures .0) in
+    let t = front kinds.list _ _ _ (l .inv) _ (at-list .before .loop-test .taken) (at-list .list-at .ensures .0) in
     omega (arith, t .within, c .list-size .ensures)
 
 loop-less : tie.Need-loop-less Inv-loop μ-loop
 loop-less c =
     let at-list = c .before .before .before .before .before in
     let l = at-list .before .before .loop in
-    let t = turn kinds.list _ _ _ (l .inv) _ (at-list .before .loop-test .taken) (at-list .list-at .ensures .0) in
+    let t = front kinds.list _ _ _ (l .inv) _ (at-list .before .loop-test .taken) (at-list .list-at .ensures .0) in
     omega (arith, t .within, t .positive, c .list-size .ensures)
 
 loop-again : tie.Need-loop-again Inv-loop μ-loop
 loop-again c =
     let at-list = c .before .before .before .before .before in
     let l = at-list .before .before .loop in
-    let t = turn kinds.list _ _ _ (l .inv) _ (at-list .before .loop-test .taken) (at-list .list-at .ensures .0) in
+    let t = front kinds.list _ _ _ (l .inv) _ (at-list .before .loop-test .taken) (at-list .list-at .ensures .0) in
     let m = measure-is _ _ _ _ t _ _ (c .before .before .before .before .measured .ensures) (c .before .before .before .digest .ensures) in
     onward kinds.list _ _ _ _ _ t _ (c .list-size .ensures) (hashing-step _ _ _ (t .first) (t .others) _ (t .kept) m (c .before .absorb .ensures))
 

@@ -3,7 +3,7 @@ use Prim.Native.Nat.{_-_, _≤_}
 use native.Mathlib.Omega.{arith}
 use lib.ListN.{length}
 use Rattle.policy.proofs.Standing as kinds
-use Rattle.policy.proofs.Walk.{Left, turn, onward, ended}
+use Rattle.policy.proofs.Walk.{Left, front, onward, ended}
 use Rattle.decision.specs.Lists.{listsOf, lowestPermitting}
 use Rattle.decision.proofs.Walking.{starts, short}
 use Rattle.decision.proofs.Lowest.{Lowest, list-stands, lowest-start, lowest-end, this-permits, this-does-not}
@@ -27,14 +27,14 @@ list-at-requires c κs = search needs
 
 list-permits-requires : tie.Need-list-permits-requires Inv-loop μ-loop
 list-permits-requires c κs =
-    let t = turn kinds.list _ _ _ (c .before .before .loop .inv .1) _ (c .before .loop-test .taken) (c .list-at .ensures .0) in
+    let t = front kinds.list _ _ _ (c .before .before .loop .inv .1) _ (c .before .loop-test .taken) (c .list-at .ensures .0) in
     (t .first, list-stands _ _ _ _ t)
 
 returns : tie.Need-returns Inv-loop μ-loop
 unfolding lowestPermitting
 returns c =
     let at-list = c .before .before in
-    let t = turn kinds.list _ _ _ (at-list .before .before .loop .inv .1) _ (at-list .before .loop-test .taken) (at-list .list-at .ensures .0) in
+    let t = front kinds.list _ _ _ (at-list .before .before .loop .inv .1) _ (at-list .before .loop-test .taken) (at-list .list-at .ensures .0) in
     this-permits _ _ _ _ _ _ t _ (c .before .list-permits .ensures) (c .if1 .taken)
 
 list-size-requires : tie.Need-list-size-requires Inv-loop μ-loop
@@ -43,7 +43,7 @@ list-size-requires c κs = search needs
 add-at : tie.Need-add-at Inv-loop μ-loop
 add-at c =
     let at-list = c .before .before .before in
-    let t = turn kinds.list _ _ _ (at-list .before .before .loop .inv .1) _ (at-list .before .loop-test .taken) (at-list .list-at .ensures .0) in
+    let t = front kinds.list _ _ _ (at-list .before .before .loop .inv .1) _ (at-list .before .loop-test .taken) (at-list .list-at .ensures .0) in
     omega (arith, t .within, c .list-size .ensures)
 
 add-i : tie.Need-add-i Inv-loop μ-loop
@@ -52,13 +52,13 @@ add-i c = omega (arith, short _ (c .before .before .before .before .before .befo
 loop-less : tie.Need-loop-less Inv-loop μ-loop
 loop-less c =
     let at-list = c .before .before .before in
-    let t = turn kinds.list _ _ _ (at-list .before .before .loop .inv .1) _ (at-list .before .loop-test .taken) (at-list .list-at .ensures .0) in
+    let t = front kinds.list _ _ _ (at-list .before .before .loop .inv .1) _ (at-list .before .loop-test .taken) (at-list .list-at .ensures .0) in
     omega (arith, t .within, t .positive, c .list-size .ensures)
 
 loop-again : tie.Need-loop-again Inv-loop μ-loop
 loop-again c =
     let at-list = c .before .before .before in
-    let t = turn kinds.list _ _ _ (at-list .before .before .loop .inv .1) _ (at-list .before .loop-test .taken) (at-list .list-at .ensures .0) in (
+    let t = front kinds.list _ _ _ (at-list .before .before .loop .inv .1) _ (at-list .before .loop-test .taken) (at-list .list-at .ensures .0) in (
       omega (arith, t .positive, c .list-size .ensures),
       onward kinds.list _ _ _ _ _ t _ (c .list-size .ensures) (this-does-not _ _ _ _ _ _ t _ (c .before .before .list-permits .ensures) (c .before .if1 .left)),
     )

@@ -8,10 +8,10 @@ use native.Mathlib.Omega.{arith}
 use borrow.Author.Needs.{needs}
 use borrow.Author.Tests.{not-true}
 use lib.ListN.{take, drop}
-use Rattle.range.specs.Range.{insideOf}
+use Rattle.range.specs.Range.{insideOf, pageSize}
 use Rattle.range.proofs.Ranges.{inside-bounds}
 use Rattle.rules.proofs.Tests.{confirmed}
-use Rattle.pages.specs.Memory.{pageSize, pageOf, windowOf}
+use Rattle.pages.specs.Memory.{pageOf, windowOf}
 use Rattle.mle.specs.declared.Image.{Image}
 use Rattle.mle.specs.Image.{bytesAt}
 use Rattle.mle.proofs.Pages.{bytes-there, bytes-none}

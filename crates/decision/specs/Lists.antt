@@ -38,7 +38,7 @@ filePlaced w window base size =
 unfoldable pub fileOf : List ℕ → ℕ → ℕ → ℕ → List ℕ
 fileOf w window base size = cond (all (filePlaced w window base size)) (take size (drop (base - window) w)) []
 
--- 27. "policy file not of the grammar"
+-- 27. "policy file not of the grammar"; a string of a size that is not read is not either
 abbrev pub isSome : {A : Type 0} → Option A → Bool
 isSome none = false
 isSome (some a) = true

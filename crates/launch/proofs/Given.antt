@@ -133,6 +133,7 @@ module _ (i : Input) (places : List ℕ) (b : Bytes (i .window)) (told : length 
       record {
         count = ap (λ (a : Answer). a .pages) (answer-permitted i e) ∙ counted;
         first = first;
+        present = walked .present;
         linear = page-is;
         rest = rest;
         ascend = λ j k x y. rw (page-is j (omega arith), page-is k y) (walked .rising j k x y);

@@ -11,7 +11,7 @@ use Rattle.sha256.specs.Message.{sha256}
 use Rattle.pages.specs.declared.Kind.the-variants.{Page}
 use Rattle.pages.specs.Entry.{addressOf}
 use Rattle.pages.specs.Memory.{pageOf, windowOf, regions}
-use Rattle.pages.specs.Meaning.{Within, Apart, Some, entry}
+use Rattle.pages.specs.Meaning.{Within, Apart, Some, entry, Present}
 use Rattle.policy.specs.Grammar.{Reading, Makes}
 use Rattle.decision.specs.Record.{policyType, LIST, ANY}
 use Rattle.decision.specs.Lists.{noList}
@@ -39,6 +39,7 @@ module _ (i : Input) (places : List ℕ) where
     pub count : answerOf i .pages ≡ N i
     -- the first N places hold the pages in linear order: each is found through the tables; the other places are as they were
     pub first : ℕ
+    pub present : (k : ℕ) → k < N i → Present (i .window) (memory i) (os i .«page_table_base») Page (first + k)
     pub linear : (k : ℕ) → k < N i → page k ≡ addressOf (entry (i .window) (memory i) (os i .«page_table_base») Page (first + k))
     pub rest : drop (N i) (placesOf i places) ≡ drop (N i) places
     -- they ascend strictly and do not overlap

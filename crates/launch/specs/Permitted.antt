@@ -1,4 +1,4 @@
--- When a launch is permitted: every rule as a plain proposition, one field a rule, in the order of the rules.
+-- When a launch is permitted: every rule as a plain proposition, in the order of the rules, each field with its numbers.
 use Prim.Native.Nat.{ℕ, _+_, _%_, _≤_}
 use mathlib.Core.Path.{_≡_}
 use mathlib.Core.List.{List}

@@ -2,10 +2,10 @@
 use Prim.Native.Nat.{ℕ}
 use mathlib.Core.List.{List, [], _∷_}
 use lib.ListN.{replicate}
-use Rattle.policy.specs.declared.ListAnswer.{ListAnswer}
-use Rattle.policy.specs.declared.ListAnswer.the-variants as lists
-use Rattle.policy.specs.declared.ElementAnswer.{ElementAnswer}
-use Rattle.policy.specs.declared.ElementAnswer.the-variants.{Launch, Custom, Unjudged, Refused}
+use Rattle.policy_answers.specs.declared.ListAnswer.{ListAnswer}
+use Rattle.policy_answers.specs.declared.ListAnswer.the-variants as lists
+use Rattle.policy_answers.specs.declared.ElementAnswer.{ElementAnswer}
+use Rattle.policy_answers.specs.declared.ElementAnswer.the-variants.{Launch, Custom, Unjudged, Refused}
 
 abbrev pub listKind : ListAnswer → ℕ
 listKind lists.Absent = 0

@@ -1,12 +1,16 @@
-// The reader of policy files: the number of a string, and any list or element of it by number. A part is its offset and its length in the file.
-use policy::ElementAnswer;
-use policy::FileAnswer;
-use policy::ListAnswer;
+// The reader of policy files: the number of a string, and any list or element of it, by number or at an offset. A part is its offset and its length
+// in the file.
+use policy_answers::ElementAnswer;
+use policy_answers::FileAnswer;
+use policy_answers::ListAnswer;
 ghost use mathlib.Core.Path.{_≡_};
 ghost use mathlib.Core.List.{[], _∷_};
-ghost use Rattle.policy.specs.Answers.{fileShown, listAnswer, elementAnswer};
-ghost use Rattle.policy.specs.Decode.{accepted};
-ghost use Rattle.policy.specs.Demand3.{numberOf, countOf};
+ghost use lib.ListN.{drop};
+ghost use Rattle.policy_grammar.specs.Parser.{valueOf};
+ghost use Rattle.policy_grammar.specs.Decode.{accepted};
+ghost use Rattle.policy_grammar.specs.Decode as Decode;
+ghost use Rattle.policy_answers.specs.Answers.{fileShown, listShown, listAnswer, elementShown, elementAnswer};
+ghost use Rattle.policy_answers.specs.Seen.{numberOf, countOf};
 ghost use Rattle.bleiwurzel.specs.Policy.{listKind, listFields, elementKind, elementFields};
 
 // The number of a string: 0, 26 or 27. `lists` gets the number of its lists, 0 where it is refused.
@@ -15,7 +19,7 @@ pub extern "C" fn bleiwurzel_policy(file: &[u8], lists: &mut [u64; 1]) -> u32
     ensures number { λ r. ⌜ r ≡ numberOf (fileShown (now (file .entry)) (accepted (now (file .entry)))) ⌝ }
     ensures lists { λ _. ⌜ now (lists .exit) ≡ countOf (fileShown (now (file .entry)) (accepted (now (file .entry)))) ∷ [] ⌝ }
 {
-    match policy::read(file) {
+    match policy_reader::read(file) {
         FileAnswer::Accepted { lists: n } => {
             *lists = [n as u64];
             0
@@ -31,14 +35,13 @@ pub extern "C" fn bleiwurzel_policy(file: &[u8], lists: &mut [u64; 1]) -> u32
     }
 }
 
-// The list number i: 0 where there is none, 1 for an unsigned one, 2 for a signed one. `fields` gets its offset, its size, its version, the
-// offset and the size of its elements, and where it is signed the counter, the key size and the offsets of key and signature; else zeros.
-#[no_mangle]
-pub extern "C" fn bleiwurzel_policy_list(file: &[u8], i: usize, fields: &mut [u64; 9]) -> u32
-    ensures kind { λ r. ⌜ r ≡ listKind (listAnswer (accepted (now (file .entry))) i) ⌝ }
-    ensures fields { λ _. ⌜ now (fields .exit) ≡ listFields (listAnswer (accepted (now (file .entry))) i) ⌝ }
+// The kind of a list, with its numbers in `fields`: 0 where there is none, 1 for an unsigned one, 2 for a signed one. The fields are its offset, its size,
+// its version, the offset and the size of its elements, and where it is signed the counter, the key size and the offsets of key and signature; else zeros.
+fn list_numbers(l: ListAnswer, fields: &mut [u64; 9]) -> u32
+    ensures kind { λ r. ⌜ r ≡ listKind l ⌝ }
+    ensures fields { λ _. ⌜ now (fields .exit) ≡ listFields l ⌝ }
 {
-    match policy::list(file, i) {
+    match l {
         ListAnswer::Unsigned {
             start,
             size,
@@ -90,20 +93,32 @@ pub extern "C" fn bleiwurzel_policy_list(file: &[u8], i: usize, fields: &mut [u6
     }
 }
 
-// The element number j of the list number i: 0 where there is none, 1 for a launch element (type 0x10), 2 for a custom one (type 3), 3 for
-// another type. `fields` gets its offset, its size, its type, its control and, of a launch element, SINITMinVersion, the reserved byte, HashAlg and
-// the number of digests; else zeros.
+// The list number i.
 #[no_mangle]
-pub extern "C" fn bleiwurzel_policy_element(
-    file: &[u8],
-    i: usize,
-    j: usize,
-    fields: &mut [u64; 8],
-) -> u32
-    ensures kind { λ r. ⌜ r ≡ elementKind (elementAnswer (accepted (now (file .entry))) i j) ⌝ }
-    ensures fields { λ _. ⌜ now (fields .exit) ≡ elementFields (elementAnswer (accepted (now (file .entry))) i j) ⌝ }
+pub extern "C" fn bleiwurzel_policy_list(file: &[u8], i: usize, fields: &mut [u64; 9]) -> u32
+    ensures kind { λ r. ⌜ r ≡ listKind (listAnswer (accepted (now (file .entry))) i) ⌝ }
+    ensures fields { λ _. ⌜ now (fields .exit) ≡ listFields (listAnswer (accepted (now (file .entry))) i) ⌝ }
 {
-    match policy::element(file, i, j) {
+    list_numbers(policy::list(file, i), fields)
+}
+
+// The list that stands at an offset.
+#[no_mangle]
+pub extern "C" fn bleiwurzel_policy_list_at(file: &[u8], at: usize, fields: &mut [u64; 9]) -> u32
+    ensures kind { λ r. ⌜ r ≡ listKind (listShown at (valueOf (Decode.list (drop at (now (file .entry)))))) ⌝ }
+    ensures fields { λ _. ⌜ now (fields .exit) ≡ listFields (listShown at (valueOf (Decode.list (drop at (now (file .entry)))))) ⌝ }
+{
+    list_numbers(policy_reader::list_at(file, at), fields)
+}
+
+// The kind of an element, with its numbers in `fields`: 0 where there is none, 1 for a launch element (type 0x10), 2 for a custom one (type 3), 3 for
+// another type. The fields are its offset, its size, its type, its control and, of a launch element, SINITMinVersion, the reserved byte, HashAlg and
+// the number of digests; else zeros.
+fn element_numbers(e: ElementAnswer, fields: &mut [u64; 8]) -> u32
+    ensures kind { λ r. ⌜ r ≡ elementKind e ⌝ }
+    ensures fields { λ _. ⌜ now (fields .exit) ≡ elementFields e ⌝ }
+{
+    match e {
         ElementAnswer::Launch {
             start,
             size,
@@ -156,4 +171,27 @@ pub extern "C" fn bleiwurzel_policy_element(
             0
         }
     }
+}
+
+// The element number j of the list number i.
+#[no_mangle]
+pub extern "C" fn bleiwurzel_policy_element(
+    file: &[u8],
+    i: usize,
+    j: usize,
+    fields: &mut [u64; 8],
+) -> u32
+    ensures kind { λ r. ⌜ r ≡ elementKind (elementAnswer (accepted (now (file .entry))) i j) ⌝ }
+    ensures fields { λ _. ⌜ now (fields .exit) ≡ elementFields (elementAnswer (accepted (now (file .entry))) i j) ⌝ }
+{
+    element_numbers(policy::element(file, i, j), fields)
+}
+
+// The element that stands at an offset.
+#[no_mangle]
+pub extern "C" fn bleiwurzel_policy_element_at(file: &[u8], at: usize, fields: &mut [u64; 8]) -> u32
+    ensures kind { λ r. ⌜ r ≡ elementKind (elementShown at (valueOf (Decode.element (drop at (now (file .entry)))))) ⌝ }
+    ensures fields { λ _. ⌜ now (fields .exit) ≡ elementFields (elementShown at (valueOf (Decode.element (drop at (now (file .entry)))))) ⌝ }
+{
+    element_numbers(policy_reader::element_at(file, at), fields)
 }

@@ -8,7 +8,7 @@ use lib.Dec.{lit<}
 use lib.ListN.{length, drop}
 use lib.Seq.{drop-drop}
 use Rattle.field.specs.Field.{same, markedAt}
-use Rattle.policy.specs.Demand3.{pieces}
+use Rattle.policy_answers.specs.Seen.{pieces}
 use Rattle.decision.specs.Lists.{any}
 use Rattle.decision.proofs.Marks.{marked-same}
 

@@ -6,12 +6,12 @@ use Rattle.sha256.specs.declared.Running.{Running}
 use Rattle.sha256.specs.Message.{sha256}
 use Rattle.sha256.specs.State.{started, Absorbed, finishOf, Holds}
 use Rattle.sha256.proofs.Parts.{start-holds, absorb-holds, finish-holds}
-use Rattle.policy.specs.declared.ListAnswer.{ListAnswer}
-use Rattle.policy.specs.Grammar.{Signing, PolicyList}
-use Rattle.policy.specs.Grammar as Grammar
-use Rattle.policy.specs.Demand3.{seenList, listPart}
-use Rattle.policy.proofs.Standing as kinds
-use Rattle.policy.proofs.Walk.{Front, list-seen}
+use Rattle.policy_answers.specs.declared.ListAnswer.{ListAnswer}
+use Rattle.policy_grammar.specs.Grammar.{Signing, PolicyList}
+use Rattle.policy_grammar.specs.Grammar as Grammar
+use Rattle.policy_answers.specs.Seen.{seenList, listPart}
+use Rattle.policy_reader.proofs.Standing as kinds
+use Rattle.policy_reader.proofs.Walk.{Front, list-seen}
 use Rattle.decision.specs.Lists.{measuredBytes, measure, hashOf}
 use Rattle.decision.specs.Inner.{measuredIn, measuredSeen}
 

@@ -5,15 +5,15 @@ use mathlib.Core.Bool.{Bool, true, false, _&&_, _||_, true≢false, or-true, or-
 use mathlib.Core.List.{List, []}
 use native.Mathlib.Omega.{arith}
 use lib.ListN.{length, take}
-use Rattle.policy.specs.declared.ElementAnswer.{ElementAnswer}
-use Rattle.policy.specs.declared.ListAnswer.{ListAnswer}
-use Rattle.policy.specs.declared.ListAnswer.the-variants as lists
-use Rattle.policy.specs.Grammar.{Element, Signing, PolicyList}
-use Rattle.policy.specs.Grammar as Grammar
-use Rattle.policy.specs.Answers.{signingShown}
-use Rattle.policy.specs.Demand3.{seenElement}
-use Rattle.policy.proofs.Standing as kinds
-use Rattle.policy.proofs.Walk.{Front, element-seen, elements-within, elements-stand}
+use Rattle.policy_answers.specs.declared.ElementAnswer.{ElementAnswer}
+use Rattle.policy_answers.specs.declared.ListAnswer.{ListAnswer}
+use Rattle.policy_answers.specs.declared.ListAnswer.the-variants as lists
+use Rattle.policy_grammar.specs.Grammar.{Element, Signing, PolicyList}
+use Rattle.policy_grammar.specs.Grammar as Grammar
+use Rattle.policy_answers.specs.Answers.{signingShown}
+use Rattle.policy_answers.specs.Seen.{seenElement}
+use Rattle.policy_reader.proofs.Standing as kinds
+use Rattle.policy_reader.proofs.Walk.{Front, element-seen, elements-within, elements-stand}
 use Rattle.decision.specs.declared.Criteria.{Criteria}
 use Rattle.decision.specs.Lists.{every, any, judged, names, permits}
 use Rattle.decision.specs.Inner.{judgedAnswer, namesSeen, Counted, ElementsStand, ListStands}

@@ -5,11 +5,11 @@ use mathlib.Core.Bool.{Bool, true, false, true≢false}
 use mathlib.Core.List.{List, []}
 use mathlib.Core.Option.{Option, some, none}
 use native.Mathlib.Numerals.{add-one}
-use Rattle.policy.specs.declared.ListAnswer.{ListAnswer}
-use Rattle.policy.specs.Grammar.{PolicyList, Reading}
-use Rattle.policy.specs.Decode.{accepted}
-use Rattle.policy.proofs.Standing as kinds
-use Rattle.policy.proofs.Walk.{Front}
+use Rattle.policy_answers.specs.declared.ListAnswer.{ListAnswer}
+use Rattle.policy_grammar.specs.Grammar.{PolicyList, Reading}
+use Rattle.policy_grammar.specs.Decode.{accepted}
+use Rattle.policy_reader.proofs.Standing as kinds
+use Rattle.policy_reader.proofs.Walk.{Front}
 use Rattle.decision.specs.declared.Criteria.{Criteria}
 use Rattle.decision.specs.Lists.{isSome, ofGrammar, permits, noList, lowestFrom, lowestPermitting}
 use Rattle.decision.specs.Inner.{ListStands}

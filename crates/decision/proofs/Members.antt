@@ -7,7 +7,7 @@ use mathlib.Core.List.{List, [], _∷_}
 use mathlib.Core.Option.{some, none}
 use native.Mathlib.Omega.{arith}
 use lib.ListN.{length, getElem?}
-use Rattle.policy.specs.Grammar.{PolicyList}
+use Rattle.policy_grammar.specs.Grammar.{PolicyList}
 use Rattle.decision.specs.Lists.{every, any, noList, someFrom, lowestFrom}
 use Rattle.rules.proofs.Tests.{or-exactly}
 

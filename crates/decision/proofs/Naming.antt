@@ -9,13 +9,13 @@ use lib.Dec.{eqb}
 use lib.ListN.{drop}
 use lib.Seq.{drop-drop}
 use Rattle.field.specs.Field.{same}
-use Rattle.policy.specs.declared.ElementAnswer.{ElementAnswer}
-use Rattle.policy.specs.declared.ElementAnswer.the-variants as elements
-use Rattle.policy.specs.Grammar.{Body, ValidBody, Element, ValidElement, digestLength}
-use Rattle.policy.specs.Grammar as Grammar
-use Rattle.policy.specs.Answers.{elementShown}
-use Rattle.policy.specs.Parts.{partAt}
-use Rattle.policy.specs.Demand3.{pieces, seenElement}
+use Rattle.policy_answers.specs.declared.ElementAnswer.{ElementAnswer}
+use Rattle.policy_answers.specs.declared.ElementAnswer.the-variants as elements
+use Rattle.policy_grammar.specs.Grammar.{Body, ValidBody, Element, ValidElement, digestLength}
+use Rattle.policy_grammar.specs.Grammar as Grammar
+use Rattle.policy_answers.specs.Answers.{elementShown}
+use Rattle.policy_answers.specs.Parts.{partAt}
+use Rattle.policy_answers.specs.Seen.{pieces, seenElement}
 use Rattle.decision.specs.declared.Criteria.{Criteria}
 use Rattle.decision.specs.Lists.{any, launchType, customType, judged, names}
 use Rattle.decision.specs.Inner.{judgedAnswer, namesSeen, Counted}

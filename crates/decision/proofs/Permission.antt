@@ -9,8 +9,8 @@ use native.Mathlib.Omega.{arith}
 use lib.ListN.{length, getElem?}
 use Rattle.field.specs.Number.{Bytes}
 use Rattle.field.specs.Field.{same}
-use Rattle.policy.specs.Grammar.{Body, Launch, Element, Signing, PolicyList, Reading}
-use Rattle.policy.specs.Grammar as Grammar
+use Rattle.policy_grammar.specs.Grammar.{Body, Launch, Element, Signing, PolicyList, Reading}
+use Rattle.policy_grammar.specs.Grammar as Grammar
 use Rattle.decision.specs.declared.Criteria.{Criteria}
 use Rattle.decision.specs.Record.{sha256Alg}
 use Rattle.decision.specs.Lists.{listsOf, launchType, customType, unsigned, judged, launchNames, names, permits, someFrom, somePermits, noList, lowestFrom, lowestPermitting}

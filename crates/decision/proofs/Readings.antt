@@ -8,9 +8,9 @@ use mathlib.Core.Option.{Option, some, none}
 use native.Mathlib.Omega.{arith}
 use lib.ListN.{length}
 use Rattle.field.specs.Number.{Bytes}
-use Rattle.policy.specs.Grammar.{Reading}
-use Rattle.policy.specs.Decode.{accepted}
-use Rattle.policy.proofs.Places.{accepted-sound, accepted-complete}
+use Rattle.policy_grammar.specs.Grammar.{Reading}
+use Rattle.policy_grammar.specs.Decode.{accepted}
+use Rattle.policy_reader.proofs.Places.{accepted-sound, accepted-complete}
 use Rattle.decision.specs.Lists.{isSome, ofGrammar, listsOf}
 use Rattle.decision.specs.Meaning.{OfGrammar, GrammarExactly, Reads, ListsExactly}
 use Rattle.decision.proofs.Walking.{short}

@@ -9,13 +9,13 @@ use lib.Dec.{leb}
 use lib.ListN.{length, getD, drop}
 use mir.Val.{Fits}
 use mir.Syntax.{w8}
-use Rattle.policy.specs.declared.FileAnswer.{FileAnswer}
-use Rattle.policy.specs.declared.FileAnswer.the-variants.{Accepted, WrongSize, NotOfGrammar}
-use Rattle.policy.specs.Grammar.{All, listBytes, ValidList, Reading}
-use Rattle.policy.specs.Parser.{valueOf}
-use Rattle.policy.specs.Decode.{reading, accepted}
-use Rattle.policy.specs.Answers.{sized, fileShown}
-use Rattle.policy.proofs.Walk.{walk-start}
+use Rattle.policy_answers.specs.declared.FileAnswer.{FileAnswer}
+use Rattle.policy_answers.specs.declared.FileAnswer.the-variants.{Accepted, WrongSize, NotOfGrammar}
+use Rattle.policy_grammar.specs.Grammar.{All, listBytes, ValidList, Reading}
+use Rattle.policy_grammar.specs.Parser.{valueOf}
+use Rattle.policy_grammar.specs.Decode.{reading, accepted, sized}
+use Rattle.policy_answers.specs.Answers.{fileShown}
+use Rattle.policy_reader.proofs.Walk.{walk-start}
 use Rattle.decision.specs.Lists.{isSome, ofGrammar, listsOf}
 
 abbrev pub isAccepted : FileAnswer → Bool

@@ -5,13 +5,13 @@ use mathlib.Core.Bool.{Bool, true, false}
 use mathlib.Core.List.{List, [], _∷_, flatMap}
 use mathlib.Core.Option.{Option, some, none}
 use lib.ListN.{drop}
-use Rattle.policy.specs.declared.ListAnswer.{ListAnswer}
-use Rattle.policy.specs.declared.ElementAnswer.{ElementAnswer}
-use Rattle.policy.specs.declared.ElementAnswer.the-variants as elements
-use Rattle.policy.specs.Grammar.{All, Element, elementBytes, ValidElement, Signing, PolicyList, listBytes, ValidList}
-use Rattle.policy.specs.Grammar as Grammar
-use Rattle.policy.specs.Answers.{listShown}
-use Rattle.policy.specs.Demand3.{ListPart}
+use Rattle.policy_answers.specs.declared.ListAnswer.{ListAnswer}
+use Rattle.policy_answers.specs.declared.ElementAnswer.{ElementAnswer}
+use Rattle.policy_answers.specs.declared.ElementAnswer.the-variants as elements
+use Rattle.policy_grammar.specs.Grammar.{All, Element, elementBytes, ValidElement, Signing, PolicyList, listBytes, ValidList}
+use Rattle.policy_grammar.specs.Grammar as Grammar
+use Rattle.policy_answers.specs.Answers.{listShown}
+use Rattle.policy_answers.specs.Seen.{ListPart}
 use Rattle.decision.specs.declared.Criteria.{Criteria}
 use Rattle.decision.specs.Lists.{names}
 

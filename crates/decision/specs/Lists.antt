@@ -9,10 +9,10 @@ use Rattle.field.specs.Field.{same}
 use Rattle.range.specs.Range.{insideOf}
 use Rattle.rules.specs.Rules.{all}
 use Rattle.sha256.specs.Message.{sha256}
-use Rattle.policy.specs.Grammar.{Body, Launch, Element, Signing, PolicyList, listBytes}
-use Rattle.policy.specs.Grammar as Grammar
-use Rattle.policy.specs.Answers.{listsIn, leastFile, largestFile}
-use Rattle.policy.specs.Decode.{accepted}
+use Rattle.policy_grammar.specs.Grammar.{Body, Launch, Element, Signing, PolicyList, listBytes}
+use Rattle.policy_grammar.specs.Grammar as Grammar
+use Rattle.policy_answers.specs.Answers.{listsIn}
+use Rattle.policy_grammar.specs.Decode.{accepted, leastFile, largestFile}
 use Rattle.decision.specs.declared.Criteria.{Criteria}
 use Rattle.decision.specs.Record.{policyHash, sha256Alg}
 

@@ -1,11 +1,11 @@
 // The hash of the measures of a file's lists, and rules 27 and 28.
-use policy::FIRST_LIST;
-use policy::FileAnswer;
-use policy::ListAnswer;
+use policy_answers::FileAnswer;
+use policy_answers::ListAnswer;
+use policy_reader::FIRST_LIST;
 ghost use mathlib.Core.Path.{_≡_};
 ghost use mathlib.Core.Bool.{true};
 ghost use Rattle.rules.specs.Rules.{firstFailing};
-ghost use Rattle.policy.specs.Demand3.{seenList};
+ghost use Rattle.policy_answers.specs.Seen.{seenList};
 ghost use Rattle.decision.specs.Lists.{ofGrammar, listsOf, hashOf, hashMatches};
 ghost use Rattle.decision.specs.Answers.{fileRules};
 ghost use Rattle.decision.specs.Inner.{measuredSeen};
@@ -18,8 +18,8 @@ fn measured(file: &[u8], l: ListAnswer) -> &[u8]
     ensures { λ r. ⌜ now r ≡ measuredSeen (seenList (now (file .entry)) l) ⌝ }
 {
     match l {
-        ListAnswer::Unsigned { start, size, .. } => policy::part_at(file, start, size),
-        ListAnswer::Signed { key_size, key, .. } => policy::part_at(file, key, key_size),
+        ListAnswer::Unsigned { start, size, .. } => policy_answers::part_at(file, start, size),
+        ListAnswer::Signed { key_size, key, .. } => policy_answers::part_at(file, key, key_size),
         ListAnswer::Absent => &file[..0],
     }
 }
@@ -32,11 +32,11 @@ fn hash(file: &[u8]) -> [u8; 32]
     let mut state = sha256::start();
     let mut at = FIRST_LIST;
     while at < file.len() {
-        let l = policy::list_at(file, at);
+        let l = policy_reader::list_at(file, at);
         let measure = sha256::digest(measured(file, l));
         let next = sha256::absorb(state, &measure);
         state = next;
-        at += policy::list_size(l);
+        at += policy_answers::list_size(l);
     }
     sha256::finish(state)
 }
@@ -54,7 +54,7 @@ fn hash_matches(file: &[u8], record: &[u8]) -> bool
 pub fn file_fault(file: &[u8], record: &[u8]) -> u32
     ensures { λ n. ⌜ n ≡ firstFailing (fileRules (now (file .entry)) (now («record» .entry))) ⌝ }
 {
-    match policy::read(file) {
+    match policy_reader::read(file) {
         FileAnswer::Accepted { .. } => rules::unless(hash_matches(file, record), 28, 0),
         FileAnswer::WrongSize => 27,
         FileAnswer::NotOfGrammar => 27,

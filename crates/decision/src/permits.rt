@@ -2,18 +2,18 @@
 use crate::Criteria;
 use crate::NO_LIST;
 use crate::SHA256_ALG;
-use policy::ElementAnswer;
-use policy::FIRST_LIST;
-use policy::FileAnswer;
-use policy::ListAnswer;
+use policy_answers::ElementAnswer;
+use policy_answers::FileAnswer;
+use policy_answers::ListAnswer;
+use policy_reader::FIRST_LIST;
 ghost use mathlib.Core.Path.{_≡_};
 ghost use mathlib.Core.Bool.{true, _&&_};
 ghost use mathlib.Core.List.{List};
 ghost use Prim.Native.Nat.{_<_, _^_};
 ghost use lib.ListN.{drop};
 ghost use Rattle.field.specs.Field.{same};
-ghost use Rattle.policy.specs.Grammar.{Element, PolicyList};
-ghost use Rattle.policy.specs.Demand3.{pieces, seenElement};
+ghost use Rattle.policy_grammar.specs.Grammar.{Element, PolicyList};
+ghost use Rattle.policy_answers.specs.Seen.{pieces, seenElement};
 ghost use Rattle.decision.specs.Lists as spec;
 ghost use Rattle.decision.specs.Lists.{every, any, ofGrammar, permits, lowestPermitting};
 ghost use Rattle.decision.specs.Inner.{judgedAnswer, namesSeen, Counted, ElementsStand, ListStands};
@@ -59,7 +59,7 @@ fn names(t: &[u8], e: ElementAnswer, k: Criteria) -> bool
                 return false;
             }
             let digest = k.digest;
-            named(policy::body(t, e), count, &digest)
+            named(policy_answers::body(t, e), count, &digest)
         }
         ElementAnswer::Custom { .. } => false,
         ElementAnswer::Unjudged { .. } => false,
@@ -87,14 +87,14 @@ fn elements_permit(t: &[u8], start: usize, k: Criteria) -> bool
     let mut at = start;
     let mut found = false;
     while at < t.len() {
-        let e = policy::element_at(t, at);
+        let e = policy_reader::element_at(t, at);
         if !judged(e) {
             return false;
         }
         if names(t, e, k) {
             found = true;
         }
-        at += policy::element_size(e);
+        at += policy_answers::element_size(e);
     }
     found
 }
@@ -123,11 +123,11 @@ fn lowest_in(file: &[u8], k: Criteria) -> u32
     let mut at = FIRST_LIST;
     let mut i: u32 = 0;
     while at < file.len() {
-        let l = policy::list_at(file, at);
+        let l = policy_reader::list_at(file, at);
         if list_permits(file, l, i, k) {
             return i;
         }
-        at += policy::list_size(l);
+        at += policy_answers::list_size(l);
         i += 1;
     }
     NO_LIST
@@ -137,7 +137,7 @@ fn lowest_in(file: &[u8], k: Criteria) -> u32
 pub fn lowest_permitting(file: &[u8], k: Criteria) -> u32
     ensures { λ r. ⌜ r ≡ lowestPermitting (now (file .entry)) k ⌝ }
 {
-    match policy::read(file) {
+    match policy_reader::read(file) {
         FileAnswer::Accepted { .. } => lowest_in(file, k),
         FileAnswer::WrongSize => NO_LIST,
         FileAnswer::NotOfGrammar => NO_LIST,

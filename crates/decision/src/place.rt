@@ -8,10 +8,10 @@ ghost use Rattle.decision.specs.Lists.{filePlaced, fileOf};
 pub fn file_placed(w: &[u8], window: u64, base: u64, size: u64) -> bool
     ensures { λ r. ⌜ r ≡ all (filePlaced (now (w .entry)) window base size) ⌝ }
 {
-    if size < policy::LEAST_FILE as u64 {
+    if size < policy_reader::LEAST_FILE as u64 {
         return false;
     }
-    if (policy::LARGEST_FILE as u64) < size {
+    if (policy_reader::LARGEST_FILE as u64) < size {
         return false;
     }
     let whole = Range {

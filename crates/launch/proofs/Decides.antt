@@ -12,8 +12,8 @@ use Rattle.field.specs.Number.{Bytes}
 use Rattle.field.proofs.Laws.{bytes-drop, bytes-take}
 use Rattle.rules.specs.Rules.{Rule, all, firstFailing}
 use Rattle.rules.proofs.Rules.{rule-exactly}
-use Rattle.policy.specs.Grammar.{Reading, Makes}
-use Rattle.policy.specs.Answers.{largestFile}
+use Rattle.policy_grammar.specs.Grammar.{Reading, Makes}
+use Rattle.policy_grammar.specs.Decode.{largestFile}
 use Rattle.decision.specs.Record.{policyType, LIST}
 use Rattle.decision.specs.Lists.{filePlaced, fileOf, ofGrammar}
 use Rattle.decision.specs.Meaning as decision

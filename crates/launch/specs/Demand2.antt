@@ -12,7 +12,7 @@ use Rattle.pages.specs.declared.Kind.the-variants.{Page}
 use Rattle.pages.specs.Entry.{addressOf}
 use Rattle.pages.specs.Memory.{pageOf, windowOf, regions}
 use Rattle.pages.specs.Meaning.{Within, Apart, Some, entry, Present}
-use Rattle.policy.specs.Grammar.{Reading, Makes}
+use Rattle.policy_grammar.specs.Grammar.{Reading, Makes}
 use Rattle.decision.specs.Record.{policyType, LIST, ANY}
 use Rattle.decision.specs.Lists.{noList}
 use Rattle.decision.specs.Meaning.{SomePermits, Lowest}

@@ -12,7 +12,7 @@ use Rattle.pages.specs.Meaning.{Walks}
 use Rattle.mle.specs.declared.Image.{Image}
 use Rattle.mle.specs.Header.{pagesOf}
 use Rattle.mle.specs.Meaning as mle
-use Rattle.policy.specs.Grammar.{Reading, Makes}
+use Rattle.policy_grammar.specs.Grammar.{Reading, Makes}
 use Rattle.decision.specs.Record.{policyType, LIST}
 use Rattle.decision.specs.Meaning as decision
 use Rattle.launch.specs.declared.Platform.{Platform}

@@ -7,14 +7,14 @@ ghost use mathlib.Core.Path.{_≡_};
 ghost use Rattle.mle.specs.Image.{addressAt, bytesAt, imageDigest, pageList};
 
 // The physical address of the linear page l.
-pub fn address(w: &[u8], image: Image, l: u64) -> u64
+pub(crate) fn address(w: &[u8], image: Image, l: u64) -> u64
     ensures { λ r. ⌜ r ≡ addressAt (now (w .entry)) image l ⌝ }
 {
     pages::address(pages::page(w, image.window, image.tables, l))
 }
 
 // The bytes of the page at the physical address a, as a part of the window; none where the page is not wholly inside.
-pub fn page_bytes(w: &[u8], image: Image, a: u64) -> &[u8]
+pub(crate) fn page_bytes(w: &[u8], image: Image, a: u64) -> &[u8]
     ensures { λ r. ⌜ now r ≡ bytesAt (now (w .entry)) image a ⌝ }
 {
     let page = Range {

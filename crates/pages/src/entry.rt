@@ -16,7 +16,7 @@ pub fn address(e: u64) -> u64
 }
 
 // Whether the bits that the kind reserves are 0.
-pub fn reserved_clear(kind: Kind, e: u64) -> bool
+pub(crate) fn reserved_clear(kind: Kind, e: u64) -> bool
     ensures { λ r. ⌜ r ≡ reservedClear kind e ⌝ }
 {
     if e >> 52 != 0 {

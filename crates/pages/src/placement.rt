@@ -12,7 +12,7 @@ const LOW_BASE: u64 = 0xA0000;
 const LOW_SIZE: u64 = 0x60000;
 
 // Whether the page at a lies inside the window w that begins at `base`.
-pub fn in_window(w: &[u8], base: u64, a: u64) -> bool
+pub(crate) fn in_window(w: &[u8], base: u64, a: u64) -> bool
     ensures { λ r. ⌜ r ≡ insideOf (pageOf a) (windowOf (now (w .entry)) base) ⌝ }
 {
     let page = Range {
@@ -27,7 +27,7 @@ pub fn in_window(w: &[u8], base: u64, a: u64) -> bool
 }
 
 // Rule 17: clear of the forbidden range below 1 MiB, of the heap and of the module.
-pub fn is_allowed(m: Memory, a: u64) -> bool
+pub(crate) fn is_allowed(m: Memory, a: u64) -> bool
     ensures { λ r. ⌜ r ≡ allowed m a ⌝ }
 {
     let page = Range {
@@ -42,7 +42,7 @@ pub fn is_allowed(m: Memory, a: u64) -> bool
 }
 
 // Rule 20: wholly in DPR, in the low PMR or in the high PMR.
-pub fn is_protected(m: Memory, a: u64) -> bool
+pub(crate) fn is_protected(m: Memory, a: u64) -> bool
     ensures { λ r. ⌜ r ≡ protected m a ⌝ }
 {
     let page = Range {

@@ -42,7 +42,7 @@ fn pointer(w: &[u8], base: u64, t: u64, l: u64) -> u64
     read(w, base, t, POINTERS, l)
 }
 
-pub fn directory(w: &[u8], base: u64, t: u64, l: u64) -> u64
+pub(crate) fn directory(w: &[u8], base: u64, t: u64, l: u64) -> u64
     ensures { λ r. ⌜ r ≡ directoryAt (now (w .entry)) base t l ⌝ }
 {
     under(w, base, pointer(w, base, t, l / ENTRIES), l % ENTRIES)
@@ -56,7 +56,7 @@ pub fn page(w: &[u8], base: u64, t: u64, l: u64) -> u64
 }
 
 // The entry with a number in the level of its kind.
-pub fn entry(kind: Kind, w: &[u8], base: u64, t: u64, l: u64) -> u64
+pub(crate) fn entry(kind: Kind, w: &[u8], base: u64, t: u64, l: u64) -> u64
     ensures { λ r. ⌜ r ≡ entryAt kind (now (w .entry)) base t l ⌝ }
 {
     match kind {

@@ -13,17 +13,17 @@ use mir.Syntax.{w8}
 use Rattle.policy_grammar.specs.Grammar.{All, Element, elementBytes, ValidElement, Signing, PolicyList, listBytes, ValidList, Reading}
 use Rattle.policy_grammar.specs.Grammar as Grammar
 use Rattle.policy_grammar.specs.Decode.{accepted, sized}
-use Rattle.policy.specs.Answers.{fileShown, listShown, signingShown, elementsOf, listsIn, place, listAnswer, elementIn, elementAnswer}
-use Rattle.policy.specs.declared.FileAnswer.{FileAnswer}
-use Rattle.policy.specs.declared.FileAnswer.the-variants as files
-use Rattle.policy.specs.declared.ListAnswer.{ListAnswer}
-use Rattle.policy.specs.declared.ListAnswer.the-variants as lists
-use Rattle.policy.specs.declared.PartAnswer.{PartAnswer}
-use Rattle.policy.specs.declared.PartAnswer.the-variants as parts
-use Rattle.policy.specs.declared.ElementAnswer.{ElementAnswer}
-use Rattle.policy.specs.declared.ElementAnswer.the-variants.{Refused}
-use Rattle.policy.proofs.Heads.{drop-take}
-use Rattle.policy.proofs.Places.{accepted-sound, lists-stand, list-at, elements-part, elements-fit}
+use Rattle.policy_answers.specs.Answers.{fileShown, listShown, signingShown, elementsOf, listsIn, place, listAnswer, elementIn, elementAnswer}
+use Rattle.policy_answers.specs.declared.FileAnswer.{FileAnswer}
+use Rattle.policy_answers.specs.declared.FileAnswer.the-variants as files
+use Rattle.policy_answers.specs.declared.ListAnswer.{ListAnswer}
+use Rattle.policy_answers.specs.declared.ListAnswer.the-variants as lists
+use Rattle.policy_answers.specs.declared.PartAnswer.{PartAnswer}
+use Rattle.policy_answers.specs.declared.PartAnswer.the-variants as parts
+use Rattle.policy_answers.specs.declared.ElementAnswer.{ElementAnswer}
+use Rattle.policy_answers.specs.declared.ElementAnswer.the-variants.{Refused}
+use Rattle.policy_answers.proofs.Slices.{drop-take}
+use Rattle.policy_reader.proofs.Places.{accepted-sound, lists-stand, list-at, elements-part, elements-fit}
 
 -- a list
 module _ (s : List ℕ) (b : (i : ℕ) → Fits w8 (getD s i 0)) (f : FileAnswer) (e : f ≡ fileShown s (accepted s)) where

@@ -10,14 +10,15 @@ use lib.ListN.{length, getElem?}
 use borrow.Author.Tests.{leb-true}
 use Rattle.field.specs.Number.{Bytes}
 use Rattle.policy.specs.declared.Answers.{Answers}
-use Rattle.policy.specs.declared.FileAnswer.the-variants.{WrongSize, NotOfGrammar}
+use Rattle.policy_answers.specs.declared.FileAnswer.the-variants.{WrongSize, NotOfGrammar}
 use Rattle.policy_grammar.specs.Grammar.{bodyBytes, listBytes, Element, PolicyList, Reading, Makes}
 use Rattle.policy_grammar.specs.Decode.{accepted, sized}
-use Rattle.policy.specs.Answers.{fileShown, elementIn, place, listAnswer, keyAnswer, signatureAnswer, elementAnswer}
-use Rattle.policy.specs.Demand3.{Demand3, Answered, MadeFrom, IsReadingOf, Shows, answersOf, numberOf, countOf, seenElement, seenBody}
+use Rattle.policy_answers.specs.Answers.{fileShown, elementIn, place, listAnswer, keyAnswer, signatureAnswer, elementAnswer}
+use Rattle.policy_answers.specs.Seen.{numberOf, countOf, seenElement, seenBody}
+use Rattle.policy.specs.Demand3.{Demand3, Answered, MadeFrom, IsReadingOf, Shows, answersOf}
 use Rattle.policy_grammar.proofs.Decoding.{unique}
-use Rattle.policy.proofs.Places.{accepted-sound, accepted-complete, list-at, element-at}
-use Rattle.policy.proofs.Seen.{list-seen, key-seen, signature-seen, element-seen, body-seen}
+use Rattle.policy_reader.proofs.Places.{accepted-sound, accepted-complete, list-at, element-at}
+use Rattle.policy_reader.proofs.Seen.{list-seen, key-seen, signature-seen, element-seen, body-seen}
 
 inside : (s : List ℕ) → sized s ≡ true → (36 ≤ length s) × (length s ≤ 65536)
 inside s e = let p = and-eq-true-iff _ _ .0 e in (leb-true _ _ (p .0), leb-true _ _ (p .1))

@@ -1,24 +1,24 @@
 // Lists, keys, signatures and elements of a string, by number.
-use crate::ElementAnswer;
-use crate::FIRST_LIST;
-use crate::FileAnswer;
-use crate::ListAnswer;
-use crate::PartAnswer;
-use crate::elements::element_at;
-use crate::elements::element_size;
-use crate::file::read;
-use crate::lists::list_at;
-use crate::lists::list_size;
-use crate::parts::elements_of;
-use crate::parts::key_of;
-use crate::parts::signature_of;
+use policy_answers::ElementAnswer;
+use policy_answers::FileAnswer;
+use policy_answers::ListAnswer;
+use policy_answers::PartAnswer;
+use policy_answers::element_size;
+use policy_answers::elements_of;
+use policy_answers::key_of;
+use policy_answers::list_size;
+use policy_answers::signature_of;
+use policy_reader::FIRST_LIST;
+use policy_reader::element_at;
+use policy_reader::list_at;
+use policy_reader::read;
 ghost use mathlib.Core.Path.{_≡_};
 ghost use mathlib.Core.List.{List, flatMap};
 ghost use Prim.Native.Nat.{_≤_};
 ghost use lib.ListN.{length, drop};
 ghost use Rattle.policy_grammar.specs.Grammar.{Element, PolicyList, elementBytes, listBytes, ValidElement, ValidList, All};
 ghost use Rattle.policy_grammar.specs.Decode.{accepted};
-ghost use Rattle.policy.specs.Answers.{listIn, listAnswer, keyAnswer, signatureAnswer, elementIn, elementAnswer};
+ghost use Rattle.policy_answers.specs.Answers.{listIn, listAnswer, keyAnswer, signatureAnswer, elementIn, elementAnswer};
 
 // The list number i of those that stand in s from `start` on.
 fn list_in(s: &[u8], start: usize, i: usize) -> ListAnswer

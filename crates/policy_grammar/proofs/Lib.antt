@@ -3,3 +3,4 @@ pub mod Formats
 pub mod Faults
 pub mod Soundness
 pub mod Decoding
+pub mod Heads

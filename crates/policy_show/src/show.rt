@@ -1,8 +1,8 @@
 // A policy file in lines: one for the file, each list, each element and each digest.
-use policy::ElementAnswer;
-use policy::FileAnswer;
-use policy::ListAnswer;
-use policy::PartAnswer;
+use policy_answers::ElementAnswer;
+use policy_answers::FileAnswer;
+use policy_answers::ListAnswer;
+use policy_answers::PartAnswer;
 
 fn text(b: &[u8]) {
     io::write_all(1, b);
@@ -48,7 +48,7 @@ fn digests(b: &[u8], k: usize) {
     let mut at = 6;
     while k <= b.len() - at {
         text(b"digest ");
-        bytes(policy::part_at(b, at, k));
+        bytes(policy_answers::part_at(b, at, k));
         text(b"\n");
         at += k;
     }
@@ -83,7 +83,10 @@ fn element(s: &[u8], i: usize, j: usize, e: ElementAnswer) {
             hex(b" hashalg=", hash_alg, 4);
             decimal(b" count=", count);
             text(b"\n");
-            digests(policy::body(s, e), policy::digest_length(hash_alg));
+            digests(
+                policy_answers::body(s, e),
+                policy_answers::digest_length(hash_alg),
+            );
         }
         ElementAnswer::Custom {
             start,
@@ -111,9 +114,9 @@ fn elements_from(s: &[u8], i: usize, start: usize) {
     let mut at = start;
     let mut j = 0;
     while at < s.len() {
-        let e = policy::element_at(s, at);
+        let e = policy_reader::element_at(s, at);
         element(s, i, j, e);
-        let size = policy::element_size(e);
+        let size = policy_answers::element_size(e);
         if size == 0 {
             return;
         }
@@ -192,13 +195,13 @@ fn list(i: usize, l: ListAnswer) {
 
 // The lists of s, so many, one after the other.
 fn lists(s: &[u8], count: usize) {
-    let mut at = policy::FIRST_LIST;
+    let mut at = policy_reader::FIRST_LIST;
     let mut i = 0;
     while i < count {
-        let l = policy::list_at(s, at);
+        let l = policy_reader::list_at(s, at);
         list(i, l);
-        elements(s, i, policy::elements_of(l));
-        let size = policy::list_size(l);
+        elements(s, i, policy_answers::elements_of(l));
+        let size = policy_answers::list_size(l);
         if size == 0 {
             return;
         }
@@ -209,7 +212,7 @@ fn lists(s: &[u8], count: usize) {
 
 // The file s.
 pub(crate) fn file(s: &[u8]) {
-    match policy::read(s) {
+    match policy_reader::read(s) {
         FileAnswer::Accepted { lists: count } => {
             decimal(b"accepted lists=", count);
             text(b"\n");

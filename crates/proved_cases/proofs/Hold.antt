@@ -11,11 +11,11 @@ use Rattle.heap.specs.Heap.{biosDataSize, osMleDataSize, osSinitDataSize, parts
 use Rattle.sinit.specs.Module.{E, rowOf}
 use Rattle.rules.specs.Rules.{all, answerFor}
 use Rattle.sinit.specs.Rules.{someBelow, inside, place, header, gdt, entry, selector, table, list, revisionMatches, match, listed, supported, moduleOf}
-use Rattle.policy.specs.Grammar.{digestLength, markCharacters}
-use Rattle.policy.specs.Format as F
-use Rattle.policy.specs.Parser as P
-use Rattle.policy.specs.Layout as L
-use Rattle.policy.specs.Decode as D
+use Rattle.policy_grammar.specs.Grammar.{digestLength, markCharacters}
+use Rattle.policy_grammar.specs.Format as F
+use Rattle.policy_grammar.specs.Parser as P
+use Rattle.policy_grammar.specs.Layout as L
+use Rattle.policy_grammar.specs.Decode as D
 use Rattle.decision.specs.Lists.{names}
 use Rattle.pages.specs.Entry.{presentOf, addressOf, reservedClear}
 use Rattle.pages.specs.Memory.{allowed, protected}

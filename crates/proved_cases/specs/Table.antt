@@ -8,10 +8,10 @@ use lib.ListN.{take}
 use Rattle.heap.specs.Heap.{numberOf, heapOf}
 use Rattle.sinit.specs.Rules as sinit
 use Rattle.pages.specs.Rules as pages
-use Rattle.policy.specs.Parser.{valueOf}
-use Rattle.policy.specs.Decode.{element, accepted}
-use Rattle.policy.specs.Answers.{fileShown}
-use Rattle.policy.specs.Demand3 as policy
+use Rattle.policy_grammar.specs.Parser.{valueOf}
+use Rattle.policy_grammar.specs.Decode.{element, accepted}
+use Rattle.policy_answers.specs.Answers.{fileShown}
+use Rattle.policy_answers.specs.Seen as policy
 use Rattle.field.specs.Number.{bytes}
 use Rattle.decision.specs.declared.Criteria.{Criteria}
 use Rattle.proved_cases.specs.Heaps.{heapElement, endElement, afterSize, osSinitData, heapBytes}

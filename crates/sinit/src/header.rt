@@ -80,7 +80,7 @@ fn edition_of(acm: &[u8]) -> Edition
 }
 
 // Rule 6: base and length.
-pub fn place_holds(acm: &[u8], base: u64, capacity: u64) -> bool
+pub(crate) fn place_holds(acm: &[u8], base: u64, capacity: u64) -> bool
     ensures { λ r. ⌜ r ≡ all (place (now (acm .entry)) base capacity) ⌝ }
 {
     let length = acm.len() as u64;
@@ -101,7 +101,7 @@ pub fn place_holds(acm: &[u8], base: u64, capacity: u64) -> bool
 }
 
 // Rule 7: the numbers of the header.
-pub fn header_holds(acm: &[u8]) -> bool
+pub(crate) fn header_holds(acm: &[u8]) -> bool
     ensures { λ r. ⌜ r ≡ all (header (now (acm .entry))) ⌝ }
 {
     if number_or_zero(acm, 0, 2) != CHIPSET_MODULE {
@@ -124,14 +124,14 @@ pub fn header_holds(acm: &[u8]) -> bool
 }
 
 // E: the end of the header and the scratch area.
-pub fn header_end(acm: &[u8]) -> u64
+pub(crate) fn header_end(acm: &[u8]) -> u64
     ensures { λ r. ⌜ (r ≡ E (now (acm .entry))) × (r < 2 ^ 36) ⌝ }
 {
     4 * header_len(acm) + 4 * number_or_zero(acm, 124, 4)
 }
 
 // Rule 8: the place of the GDT.
-pub fn gdt_holds(acm: &[u8]) -> bool
+pub(crate) fn gdt_holds(acm: &[u8]) -> bool
     ensures { λ r. ⌜ r ≡ all (gdt (now (acm .entry))) ⌝ }
 {
     let length = acm.len() as u64;
@@ -150,7 +150,7 @@ pub fn gdt_holds(acm: &[u8]) -> bool
 }
 
 // Rule 8: the entry point.
-pub fn entry_holds(acm: &[u8]) -> bool
+pub(crate) fn entry_holds(acm: &[u8]) -> bool
     ensures { λ r. ⌜ r ≡ all (entry (now (acm .entry))) ⌝ }
 {
     let point = number_or_zero(acm, 52, 4);
@@ -161,7 +161,7 @@ pub fn entry_holds(acm: &[u8]) -> bool
 }
 
 // Rule 8: the selector names two segments of the GDT.
-pub fn selector_holds(acm: &[u8]) -> bool
+pub(crate) fn selector_holds(acm: &[u8]) -> bool
     ensures { λ r. ⌜ r ≡ all (selector (now (acm .entry))) ⌝ }
 {
     let limit = gdt_limit(acm);

@@ -167,7 +167,7 @@ fn version_supported(acm: &[u8], version: u64) -> bool
 }
 
 // The number of the first of rules 9 to 11 that fails, 0 where all hold.
-pub fn table_fault(acm: &[u8], chipset: Chipset, version: u64) -> u32
+pub(crate) fn table_fault(acm: &[u8], chipset: Chipset, version: u64) -> u32
     ensures { λ r. ⌜ r ≡ firstFailing (tableRules (now (acm .entry)) chipset version) ⌝ }
 {
     if !table_holds(acm) {
@@ -186,7 +186,7 @@ pub fn table_fault(acm: &[u8], chipset: Chipset, version: u64) -> u32
 }
 
 // The values of the module that later rules read.
-pub fn values(acm: &[u8]) -> ModuleData
+pub(crate) fn values(acm: &[u8]) -> ModuleData
     ensures { λ r. ⌜ r ≡ valuesOf (now (acm .entry)) ⌝ }
 {
     ModuleData {

@@ -1,7 +1,7 @@
 -- `bleiwurzel_policy` meets its contract: the number and the count of what the reader answers.
 use mathlib.Core.Path.{ap, sym, _∙_}
 use mathlib.Core.List.{[], _∷_}
-use Rattle.policy.specs.Demand3.{numberOf, countOf}
+use Rattle.policy_answers.specs.Seen.{numberOf, countOf}
 use borrow.Author.Needs.{needs}
 use Rattle.bleiwurzel.proofs.policy_file.bleiwurzel_policy.Statement.{statement}
 use Rattle.bleiwurzel.proofs.policy_file.bleiwurzel_policy.Tie as tie

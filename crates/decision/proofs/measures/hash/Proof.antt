@@ -3,8 +3,8 @@ use Prim.Native.Nat.{_-_}
 use mathlib.Core.Path.{_∙_}
 use native.Mathlib.Omega.{arith}
 use lib.ListN.{length}
-use Rattle.policy.proofs.Standing as kinds
-use Rattle.policy.proofs.Walk.{Left, front, onward, ended}
+use Rattle.policy_reader.proofs.Standing as kinds
+use Rattle.policy_reader.proofs.Walk.{Left, front, onward, ended}
 use Rattle.decision.specs.Lists.{listsOf}
 use Rattle.decision.proofs.Walking.{starts}
 use Rattle.decision.proofs.Hashing.{measure-is, Hashing, hashing-start, hashing-step, hashing-end}

@@ -2,8 +2,8 @@
 use Prim.Native.Nat.{ℕ}
 use mathlib.Core.Path.{_≡_}
 use mathlib.Core.List.{List}
-use Rattle.policy.specs.declared.ListAnswer.{ListAnswer}
-use Rattle.policy.specs.Demand3.{seenList}
+use Rattle.policy_answers.specs.declared.ListAnswer.{ListAnswer}
+use Rattle.policy_answers.specs.Seen.{seenList}
 use Rattle.decision.specs.Inner.{measuredSeen}
 use borrow.Author.Needs.{needs}
 use Rattle.decision.proofs.measures.measured.Statement.{statement}

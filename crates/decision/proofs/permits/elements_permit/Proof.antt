@@ -6,9 +6,9 @@ use mathlib.Core.List.{List}
 use native.Mathlib.Omega.{arith}
 use borrow.Author.Tests.{not-true, not-false}
 use lib.ListN.{length}
-use Rattle.policy.specs.Grammar.{Element}
-use Rattle.policy.proofs.Standing as kinds
-use Rattle.policy.proofs.Walk.{Left, front, onward, ended}
+use Rattle.policy_grammar.specs.Grammar.{Element}
+use Rattle.policy_reader.proofs.Standing as kinds
+use Rattle.policy_reader.proofs.Walk.{Left, front, onward, ended}
 use Rattle.decision.specs.Inner.{ElementsStand}
 use Rattle.decision.proofs.Judging.{Judging, judging-start, judging-end, fits, unjudged, judging-step}
 use borrow.Author.Needs.{needs}

@@ -2,8 +2,8 @@
 use Prim.Native.Nat.{_-_, _≤_}
 use native.Mathlib.Omega.{arith}
 use lib.ListN.{length}
-use Rattle.policy.proofs.Standing as kinds
-use Rattle.policy.proofs.Walk.{Left, front, onward, ended}
+use Rattle.policy_reader.proofs.Standing as kinds
+use Rattle.policy_reader.proofs.Walk.{Left, front, onward, ended}
 use Rattle.decision.specs.Lists.{listsOf, lowestPermitting}
 use Rattle.decision.proofs.Walking.{starts, short}
 use Rattle.decision.proofs.Lowest.{Lowest, list-stands, lowest-start, lowest-end, this-permits, this-does-not}

@@ -1,6 +1,6 @@
 -- `key` meets its contract: it is the key of the list that `list` gives.
 use mathlib.Core.Path.{ap, _∙_}
-use Rattle.policy.specs.Answers.{keyOf}
+use Rattle.policy_answers.specs.Answers.{keyOf}
 use borrow.Author.Needs.{needs}
 use Rattle.policy.proofs.numbered.key.Statement.{statement}
 use Rattle.policy.proofs.numbered.key.Tie as tie

@@ -1,8 +1,8 @@
 -- `list_in` meets its contract. The invariant: from `start` on k lists have been passed, whatever lists stand there.
 use Prim.Native.Nat.{_≤_, _-_}
 use lib.ListN.{length}
-use Rattle.policy.proofs.Standing as kinds
-use Rattle.policy.proofs.Loops as loops
+use Rattle.policy_reader.proofs.Standing as kinds
+use Rattle.policy_reader.proofs.Loops as loops
 use borrow.Author.Needs.{needs}
 use Rattle.policy.proofs.numbered.list_in.Statement.{statement}
 use Rattle.policy.proofs.numbered.list_in.Tie as tie

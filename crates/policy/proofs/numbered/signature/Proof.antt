@@ -1,6 +1,6 @@
 -- `signature` meets its contract: it is the signature of the list that `list` gives.
 use mathlib.Core.Path.{ap, _∙_}
-use Rattle.policy.specs.Answers.{signatureOf}
+use Rattle.policy_answers.specs.Answers.{signatureOf}
 use borrow.Author.Needs.{needs}
 use Rattle.policy.proofs.numbered.signature.Statement.{statement}
 use Rattle.policy.proofs.numbered.signature.Tie as tie

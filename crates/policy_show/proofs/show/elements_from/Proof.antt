@@ -1,8 +1,8 @@
 -- `elements_from` ends: an element that was read ends within the string, and is not empty.
 use Prim.Native.Nat.{_≤_, _-_}
 use lib.ListN.{length}
-use Rattle.policy.proofs.Standing.{element}
-use Rattle.policy.proofs.Loops.{fits}
+use Rattle.policy_reader.proofs.Standing.{element}
+use Rattle.policy_reader.proofs.Loops.{fits}
 use borrow.Author.Needs.{needs}
 use Rattle.policy_show.proofs.show.elements_from.Statement.{statement}
 use Rattle.policy_show.proofs.show.elements_from.Tie as tie

@@ -1,7 +1,7 @@
 -- `lists` ends with its count; a list that was read ends within the string.
 use Prim.Native.Nat.{_≤_, _-_}
-use Rattle.policy.proofs.Standing.{list}
-use Rattle.policy.proofs.Loops.{fits}
+use Rattle.policy_reader.proofs.Standing.{list}
+use Rattle.policy_reader.proofs.Loops.{fits}
 use borrow.Author.Needs.{needs}
 use Rattle.policy_show.proofs.show.lists.Statement.{statement}
 use Rattle.policy_show.proofs.show.lists.Tie as tie

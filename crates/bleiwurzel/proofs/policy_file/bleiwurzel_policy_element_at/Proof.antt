@@ -1,0 +1,20 @@
+-- `bleiwurzel_policy_element_at` meets its contract: the kind and the fields of the element at the offset.
+use mathlib.Core.Path.{ap, _∙_}
+use Rattle.bleiwurzel.specs.Policy.{elementKind, elementFields}
+use borrow.Author.Needs.{needs}
+use Rattle.bleiwurzel.proofs.policy_file.bleiwurzel_policy_element_at.Statement.{statement}
+use Rattle.bleiwurzel.proofs.policy_file.bleiwurzel_policy_element_at.Tie as tie
+
+element-at-requires : tie.Need-element-at-requires
+element-at-requires c κs = search needs
+
+element-numbers-requires : tie.Need-element-numbers-requires
+element-numbers-requires c κs = search needs
+
+returns : tie.Need-returns
+returns c =
+    let e = c .before .before .element-at .ensures .0 in
+    (c .element-numbers .ensures .0 ∙ ap elementKind e, c .element-numbers .ensures .1 ∙ ap elementFields e)
+
+pub bleiwurzel-policy-element-at-spec : {M : Type 1} → statement M
+bleiwurzel-policy-element-at-spec = tie.close (tie.spec element-at-requires element-numbers-requires returns)

@@ -1,0 +1,15 @@
+-- The laws of the crate; other crates cite those that are public.
+-- What each function answers, by the tests that it makes.
+mod ElementTests
+mod ListTests
+mod FileTests
+-- Loops over elements and lists.
+mod Cuts
+pub mod Standing
+pub mod Loops
+mod Filling
+-- Where the parts of a reading stand, and what is seen there.
+pub mod Places
+pub mod Seen
+mod Offsets
+pub mod Walk

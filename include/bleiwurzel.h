@@ -103,6 +103,9 @@ enum bleiwurzel_number {
 #define BLEIWURZEL_MOST_POLICY 65536u
 #define BLEIWURZEL_RECORD_LENGTH 70u
 
+/* The offset of the first list of every policy file. */
+#define BLEIWURZEL_FIRST_LIST 36u
+
 /* The platform, as chipset registers and firmware report it. */
 struct bleiwurzel_platform {
     uint64_t window_base;    /* physical address of the window's first byte */
@@ -161,7 +164,7 @@ uint32_t bleiwurzel_check_capture(const uint8_t *capture, size_t capture_length,
  */
 uint32_t bleiwurzel_policy(const uint8_t *file, size_t file_length, uint64_t lists[1]);
 
-/* What bleiwurzel_policy_list answers, and what it writes where. Offsets count from the file's first byte. */
+/* What bleiwurzel_policy_list and bleiwurzel_policy_list_at answer, and what they write where. Offsets count from the file's first byte. */
 enum { BLEIWURZEL_LIST_NONE = 0, BLEIWURZEL_LIST_UNSIGNED = 1, BLEIWURZEL_LIST_SIGNED = 2 };
 enum {
     BLEIWURZEL_LIST_OFFSET = 0,
@@ -183,7 +186,17 @@ enum {
  */
 uint32_t bleiwurzel_policy_list(const uint8_t *file, size_t file_length, size_t i, uint64_t fields[9]);
 
-/* What bleiwurzel_policy_element answers, and what it writes where. */
+/*
+ * The list that stands at an offset of a string: its kind, as bleiwurzel_policy_list answers it, or 0 where no list does. Any offset may be
+ * asked. The string is not judged as a whole: ask bleiwurzel_policy first. The lists of a policy file stand from BLEIWURZEL_FIRST_LIST on, each
+ * where the one before it ends, as many as bleiwurzel_policy says; to go from one to the next reads each once, while each list by number
+ * reads the whole string.
+ *
+ * Lent for reading: file. Written: all nine fields, zeros where there is no list.
+ */
+uint32_t bleiwurzel_policy_list_at(const uint8_t *file, size_t file_length, size_t at, uint64_t fields[9]);
+
+/* What bleiwurzel_policy_element and bleiwurzel_policy_element_at answer, and what they write where. */
 enum {
     BLEIWURZEL_ELEMENT_NONE = 0,
     BLEIWURZEL_ELEMENT_LAUNCH = 1,  /* type 0x10 */
@@ -208,6 +221,15 @@ enum {
  * Lent for reading: file. Written: all eight fields, zeros where there is no element.
  */
 uint32_t bleiwurzel_policy_element(const uint8_t *file, size_t file_length, size_t i, size_t j, uint64_t fields[8]);
+
+/*
+ * The element that stands at an offset of a string: its kind, as bleiwurzel_policy_element answers it, or 0 where no element does. Any offset
+ * may be asked. The elements of a list stand from its field BLEIWURZEL_LIST_ELEMENTS on, each where the one before it ends, and fill
+ * BLEIWURZEL_LIST_ELEMENTS_SIZE bytes.
+ *
+ * Lent for reading: file. Written: all eight fields, zeros where there is no element.
+ */
+uint32_t bleiwurzel_policy_element_at(const uint8_t *file, size_t file_length, size_t at, uint64_t fields[8]);
 
 /* ---- SHA-256 ------------------------------------------------------------------------------------------------------------------------ */
 

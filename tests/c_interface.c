@@ -102,8 +102,19 @@ static void policies(void)
     NEED(bleiwurzel_policy_element(file, sizeof file, 0, 1, fields) == BLEIWURZEL_ELEMENT_UNJUDGED);
     NEED(fields[BLEIWURZEL_ELEMENT_TYPE] == 0x13 && fields[BLEIWURZEL_ELEMENT_OFFSET] == 94);
     NEED(bleiwurzel_policy_element(file, sizeof file, 0, 2, fields) == BLEIWURZEL_ELEMENT_NONE);
+    NEED(bleiwurzel_policy_list_at(file, sizeof file, BLEIWURZEL_FIRST_LIST, fields) == BLEIWURZEL_LIST_UNSIGNED);
+    NEED(fields[BLEIWURZEL_LIST_OFFSET] == 36 && fields[BLEIWURZEL_LIST_SIZE] == 71);
+    NEED(bleiwurzel_policy_list_at(file, sizeof file, 107, fields) == BLEIWURZEL_LIST_SIGNED && fields[BLEIWURZEL_LIST_KEY] == 119);
+    NEED(bleiwurzel_policy_list_at(file, sizeof file, 106, fields) == BLEIWURZEL_LIST_NONE && fields[BLEIWURZEL_LIST_SIZE] == 0);
+    NEED(bleiwurzel_policy_list_at(file, sizeof file, SIZE_MAX, fields) == BLEIWURZEL_LIST_NONE);
+    NEED(bleiwurzel_policy_element_at(file, sizeof file, 44, fields) == BLEIWURZEL_ELEMENT_LAUNCH);
+    NEED(fields[BLEIWURZEL_ELEMENT_SIZE] == 50 && fields[BLEIWURZEL_ELEMENT_DIGESTS] == 1);
+    NEED(bleiwurzel_policy_element_at(file, sizeof file, 94, fields) == BLEIWURZEL_ELEMENT_UNJUDGED);
+    NEED(fields[BLEIWURZEL_ELEMENT_OFFSET] == 94 && fields[BLEIWURZEL_ELEMENT_TYPE] == 0x13);
+    NEED(bleiwurzel_policy_element_at(file, 106, 94, fields) == BLEIWURZEL_ELEMENT_NONE && fields[BLEIWURZEL_ELEMENT_SIZE] == 0);
     put(file + 98, 3, 4);
     NEED(bleiwurzel_policy_element(file, sizeof file, 0, 1, fields) == BLEIWURZEL_ELEMENT_CUSTOM);
+    NEED(bleiwurzel_policy_element_at(file, sizeof file, 94, fields) == BLEIWURZEL_ELEMENT_CUSTOM);
 }
 
 int main(void)

@@ -2,3 +2,4 @@
 pub mod Conditions
 pub mod Lines
 pub mod Written
+pub mod Room

@@ -1,16 +1,15 @@
 -- Text in arrays: digits that a loop puts in from the last to the first, and text that a loop puts behind other text.
-use Prim.Native.Nat.{ℕ, zero, suc, _+_, _-_, _/_, _%_, _^_, _<_, _≤_, min}
-use mathlib.Core.Path.{_≡_, refl, sym, _∙_, ap, ap₂}
+use Prim.Native.Nat.{ℕ, zero, suc, _+_, _-_, _/_, _%_, _^_, _<_, _≤_}
+use mathlib.Core.Path.{_≡_, sym, _∙_, ap, ap₂}
 use mathlib.Core.List.{List, [], _∷_, _++_, append-assoc, append-nil}
 use native.Mathlib.Numerals.{add-one, sub-one}
-use native.Mathlib.Nat.{add-zero, add-suc, pow-suc, div-lt-iff-lt-mul, min-le-right, zero-min, suc-min-suc}
+use native.Mathlib.Nat.{add-zero, add-suc, pow-suc, div-lt-iff-lt-mul}
 use native.Mathlib.Omega.{arith}
 use borrow.Author.Tests.{lt-ltb, le-ltb, eq-eqb, ne-eqb}
 use lib.ListN.{length, take, drop, set, getD, length-drop}
-use lib.Seq.{take-suc, take-suc-set, take-all, take-nil, drop-cons, drop-set-lt, getD-set-same, lt-length-set, append-snoc}
+use lib.Seq.{take-suc, take-suc-set, take-all, drop-cons, drop-set-lt, getD-set-same, lt-length-set, append-snoc}
 use Rattle.launch.specs.declared.Answer.{Answer}
-use Rattle.capture.specs.declared.text.Line.{Line}
-use Rattle.capture.specs.Text.{LF, digit, hexDigit, digits, decimal, hex, permittedText, listText, refusedText, firstLine, pageLine, pageLines, output, written}
+use Rattle.capture.specs.Text.{LF, digit, hexDigit, digits, decimal, hex, permittedText, listText, refusedText, firstLine}
 
 -- DIGITS, FROM THE LAST TO THE FIRST
 

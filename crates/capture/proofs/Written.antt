@@ -1,16 +1,14 @@
 -- The output in a buffer: text that is put behind text, the lines of pages one after the other, and both lines together.
-use Prim.Native.Nat.{ℕ, zero, suc, _+_, _*_, _-_, _/_, _<_, _≤_, min}
+use Prim.Native.Nat.{ℕ, zero, suc, _+_, _*_, _/_, _<_, _≤_}
 use mathlib.Core.Path.{_≡_, refl, sym, _∙_, ap, ap₂}
-use mathlib.Core.Bool.{true, false}
 use mathlib.Core.List.{List, [], _∷_, _++_, append-assoc}
-use native.Mathlib.Nat.{add-assoc, zero-min, suc-min-suc}
+use native.Mathlib.Nat.{add-assoc}
 use native.Mathlib.Omega.{arith}
-use borrow.Author.Tests.{le-leb, lt-leb}
-use lib.Dec.{leb}
-use lib.ListN.{length, take, drop, getD, length-append, length-take}
-use lib.Seq.{length-take-le, paste, take-paste, drop-paste, take-add, drop-drop, take-at, drop-at, take-all, take-nil, take-append-le, drop-append-add, take-append-seam, drop-append-seam}
+use borrow.Author.Tests.{le-leb, lt-leb, eq-eqb, ne-eqb}
+use lib.ListN.{length, take, drop, getD, length-append}
+use lib.Seq.{length-take-le, paste, take-paste, drop-paste, take-add, drop-drop, take-at, take-all, drop-append-add, take-append-seam, drop-append-seam}
 use Rattle.launch.specs.declared.Answer.{Answer}
-use Rattle.capture.specs.Text.{hex, firstLine, pageLine, pageLines, output, outputLength, outputIn, Counted}
+use Rattle.capture.specs.Text.{hex, firstLine, pageLine, pageLines, shownPages, output, outputLength, outputIn, AtFront}
 
 -- TEXT BEHIND TEXT
 
@@ -56,24 +54,32 @@ line-at (x ∷ xs) (suc i) h =
 
 -- THE WHOLE OUTPUT
 
-counted : (n : ℕ) (s : List ℕ) → n ≤ length s → Counted n s
-counted n s h = (h, sym (length-take-le n s h))
+at-front : (n : ℕ) (s : List ℕ) → n ≤ length s → AtFront n s
+at-front n s h = (h, sym (length-take-le n s h))
 
-take-min : (n : ℕ) (l : List ℕ) → take (min n (length l)) l ≡ take n l
-take-min zero l = rw zero-min
-take-min (suc n) [] = take-nil (min (suc n) 0)
-take-min (suc n) (x ∷ l) = rw suc-min-suc (ap (x ∷_) (take-min n l))
+-- the pages that are shown: none on a refusal, else as many as there are pages or places
+module _ (a : Answer) (places : List ℕ) where
+  pub shown-none : (a .number ≡ 0 → ⊥) → take 0 places ≡ shownPages a places
+  unfolding shownPages
+  shown-none h = rw (ne-eqb (a .number) 0 h)
 
-module _ (a : Answer) (places d : List ℕ) (n : ℕ) (is-n : n ≡ min (a .pages) (length places)) where
+  pub shown-some : a .number ≡ 0 → take (a .pages) places ≡ shownPages a places
+  unfolding shownPages
+  shown-some e = rw (eq-eqb (a .number) 0 e)
+
+  pub shown-all : a .number ≡ 0 → length places ≤ a .pages → take (length places) places ≡ shownPages a places
+  shown-all e h = take-all (length places) places (omega arith) ∙ sym (take-all (a .pages) places h) ∙ shown-some e
+
+module _ (a : Answer) (places d : List ℕ) (n : ℕ) (there : n ≤ length places) (is-shown : take n places ≡ shownPages a places) where
   abbrev lines : List ℕ
   lines = pageLines (take n places)
 
   is-output : output a places ≡ firstLine a ++ lines
   unfolding output
-  is-output = ap (λ (l : List ℕ). firstLine a ++ pageLines l) (sym (ap (λ (k : ℕ). take k places) is-n ∙ take-min (a .pages) places))
+  is-output = ap (λ (l : List ℕ). firstLine a ++ pageLines l) (sym is-shown)
 
   lines-are : length lines ≡ 17 * n
-  lines-are = lines-length (take n places) ∙ omega (arith, length-take n places, is-n)
+  lines-are = lines-length (take n places) ∙ omega (arith, length-take-le n places there)
 
   size : length (output a places) ≡ length (firstLine a) + 17 * n
   size = ap length is-output ∙ length-append (firstLine a) lines ∙ omega (arith, lines-are)
@@ -83,13 +89,13 @@ module _ (a : Answer) (places d : List ℕ) (n : ℕ) (is-n : n ≡ min (a .page
     is-size : length (output a places) ≡ len + 17 * n
     is-size = size ∙ omega (arith, ap length is-w)
 
-    pub no-room : length d < len + 17 * n → (0 ≡ outputLength a places d) × ((d ≡ outputIn a places d) × Counted 0 d)
+    pub no-room : length d < len + 17 * n → (0 ≡ outputLength a places d) × ((d ≡ outputIn a places d) × AtFront 0 d)
     unfolding outputLength outputIn
-    no-room h = rw (lt-leb (length (output a places)) (length d) (omega (arith, is-size))) (refl, (refl, counted 0 d (omega arith)))
+    no-room h = rw (lt-leb (length (output a places)) (length d) (omega (arith, is-size))) (refl, (refl, at-front 0 d (omega arith)))
 
     -- the first line, then those of the pages
     pub put-both : len + 17 * n ≤ length d → (first all : List ℕ) → first ≡ paste d 0 w (length w) → all ≡ paste first len lines (17 * n)
-        → (len + 17 * n ≡ outputLength a places d) × ((all ≡ outputIn a places d) × Counted (len + 17 * n) all)
+        → (len + 17 * n ≡ outputLength a places d) × ((all ≡ outputIn a places d) × AtFront (len + 17 * n) all)
     unfolding outputLength outputIn
     put-both room first all is-first is-all =
         let whole = w ++ lines in
@@ -103,4 +109,4 @@ module _ (a : Answer) (places d : List ℕ) (n : ℕ) (is-n : n ≡ min (a .page
         let same : all ≡ output a places ++ drop (length (output a places)) d =
         is-all ∙ ap (λ (x : List ℕ). paste x len lines (17 * n)) one ∙ more ∙ rw e (ap (λ (t : List ℕ). t ++ drop (0 + (len + 17 * n)) d) everything) in
         rw (le-leb (length (output a places)) (length d) (omega (arith, is-size)))
-        (sym is-size, (same, counted (len + 17 * n) all (omega (arith, is-size, ap length same, length-append (output a places) (drop (length (output a places)) d)))))
+        (sym is-size, (same, at-front (len + 17 * n) all (omega (arith, is-size, ap length same, length-append (output a places) (drop (length (output a places)) d)))))

@@ -1,6 +1,7 @@
 -- The text of the answer: the first line, and on permission a line for each page. Every line ends with LF.
-use Prim.Native.Nat.{ℕ, zero, suc, _+_, _-_, _/_, _%_, _≤_}
+use Prim.Native.Nat.{ℕ, zero, suc, _+_, _*_, _-_, _/_, _%_, _≤_}
 use mathlib.Core.Path.{_≡_}
+use mathlib.Core.Logic.{_⊎_}
 use mathlib.Core.Bool.{Bool, cond}
 use mathlib.Core.List.{List, [], _∷_, _++_}
 use lib.Dec.{leb, ltb, eqb}
@@ -69,9 +70,24 @@ unfoldable pub pageLines : List ℕ → List ℕ
 pageLines [] = []
 pageLines (address ∷ rest) = pageLine address ++ pageLines rest
 
--- the whole output: the first line, then a line for each of the first places of the page list, as many as there are pages
+-- the pages that are shown: on permission the first places of the page list, as many as there are pages
+unfoldable pub shownPages : Answer → List ℕ → List ℕ
+shownPages a places = cond (eqb (a .number) 0) (take (a .pages) places) []
+
+-- the whole output: the first line, and a line for each page that is shown
 unfoldable pub output : Answer → List ℕ → List ℕ
-output a places = firstLine a ++ pageLines (take (a .pages) places)
+output a places = firstLine a ++ pageLines (shownPages a places)
+
+-- "The program lends 4,096 places for pages." For the output it lends 48 bytes for the first line, and 17 for the line of each page: OUTPUT in src/lib.rt
+abbrev pub lentPlaces : ℕ
+lentPlaces = 4096
+
+abbrev pub lentOutput : ℕ
+lentOutput = 48 + 17 * lentPlaces
+
+-- these suffice for every answer with at most 4,096 pages, and for every page list of at most 4,096 places
+abbrev pub OutputFits : Type 0
+OutputFits = (a : Answer) (places : List ℕ) → (a .pages ≤ lentPlaces) ⊎ (length places ≤ lentPlaces) → length (output a places) ≤ lentOutput
 
 -- the output at the front of a buffer, whose other bytes stay; a buffer without room for it stays as it is, and the length is then 0
 abbrev pub fits : Answer → List ℕ → List ℕ → Bool
@@ -84,8 +100,8 @@ unfoldable pub outputIn : Answer → List ℕ → List ℕ → List ℕ
 outputIn a places buffer = cond (fits a places buffer) (output a places ++ drop (length (output a places)) buffer) buffer
 
 -- n bytes at the front of a string are there. It follows from the two above, and spares a program that lends them a proof of its own
-abbrev pub Counted : ℕ → List ℕ → Type 0
-Counted n s = (n ≤ length s) × (n ≡ length (take n s))
+abbrev pub AtFront : ℕ → List ℕ → Type 0
+AtFront n s = (n ≤ length s) × (n ≡ length (take n s))
 
 -- what a line's array says: its first `len` bytes. What is behind them is free
 abbrev pub written : Line → List ℕ

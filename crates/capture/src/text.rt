@@ -4,10 +4,10 @@
 use launch::Answer;
 ghost use mathlib.Core.Path.{_≡_};
 ghost use mathlib.Core.List.{[], _++_};
-ghost use Prim.Native.Nat.{_+_, _*_, _<_, _≤_, min};
+ghost use Prim.Native.Nat.{_+_, _*_, _<_, _≤_};
 ghost use lib.ListN.{length, take, drop};
 ghost use lib.Seq.{paste};
-ghost use Rattle.capture.specs.Text.{written, firstLine, pageLine, pageLines, outputLength, outputIn, Counted};
+ghost use Rattle.capture.specs.Text.{written, firstLine, pageLine, pageLines, shownPages, outputLength, outputIn, AtFront};
 ghost use Rattle.capture.specs.Text.{digit as Text·digit, hexDigit as Text·hexDigit, decimal as Text·decimal};
 
 const MOST_DIGITS: usize = 10;
@@ -172,10 +172,13 @@ fn put_pages(out: &mut [u8], at: usize, pages: &[u64], n: usize)
     }
 }
 
-// How many of the first places of a page list have pages.
+// How many of the first places of a page list have pages that are shown: none on a refusal.
 fn shown(a: Answer, pages: &[u64]) -> usize
-    ensures { λ r. ⌜ r ≡ min (a .pages) (length (now (pages .entry))) ⌝ }
+    ensures { λ r. ⌜ (r ≤ length (now (pages .entry))) × (take r (now (pages .entry)) ≡ shownPages a (now (pages .entry))) ⌝ }
 {
+    if a.number != 0 {
+        return 0;
+    }
     let n = a.pages as usize;
     if n < pages.len() { n } else { pages.len() }
 }
@@ -185,7 +188,7 @@ fn shown(a: Answer, pages: &[u64]) -> usize
 pub fn output(a: Answer, pages: &[u64], out: &mut [u8]) -> usize
     ensures length { λ r. ⌜ r ≡ outputLength a (now (pages .entry)) (now (out .entry)) ⌝ }
     ensures text { λ _. ⌜ now (out .exit) ≡ outputIn a (now (pages .entry)) (now (out .entry)) ⌝ }
-    ensures counted { λ r. ⌜ Counted r (now (out .exit)) ⌝ }
+    ensures front { λ r. ⌜ AtFront r (now (out .exit)) ⌝ }
 {
     let line = first_line(a);
     let len = line_length(line);

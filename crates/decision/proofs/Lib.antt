@@ -12,6 +12,7 @@ mod Digests
 mod Naming
 mod Judging
 mod Lowest
--- What rules 27 and 29 say.
+-- What rules 27 to 29 say.
 pub mod Readings
 pub mod Permission
+pub mod FileRules

@@ -11,13 +11,13 @@ use lib.Dec.{lit<, eqb}
 use Rattle.rules.specs.Rules.{Rule, firstFailing}
 use Rattle.rules.specs.Meaning.{AllSay}
 use Rattle.rules.proofs.Tests.{_&_}
-use Rattle.rules.proofs.Meaning.{Agree, agrees}
-use Rattle.rules.proofs.Answers.{number-of, value-exactly, number-exactly, all-mean, number-means}
+use Rattle.rules.proofs.Meaning.{Agree, agrees, all-mean}
+use Rattle.rules.proofs.Answers.{number-of, value-exactly, number-exactly, number-means}
 use Rattle.decision.specs.declared.RecordAnswer.{RecordAnswer}
 use Rattle.decision.specs.declared.RecordAnswer.the-variants as answers
 use Rattle.decision.specs.Record.{policyType, LIST, recordRules}
 use Rattle.decision.specs.Answers.{kindOf, numberOf, recordOf}
-use Rattle.decision.specs.Meaning.{recordMeanings, AnswerExactly}
+use Rattle.decision.specs.Meaning.{recordMeanings, NumberIsFirst, AnswerExactly}
 use Rattle.decision.proofs.Conditions.{record-exactly, worthy-or-allowed-exactly, reached-exactly}
 
 different : {A : Type 0} → _≡_ {A = ℕ} 0 1 → A
@@ -57,7 +57,7 @@ module _ (type : ℕ) where
 -- THE RECORD
 
 module _ (r : List ℕ) (flags acm : ℕ) where
-  agree : Agree (recordRules r flags acm) (recordMeanings r flags acm)
+  pub agree : Agree (recordRules r flags acm) (recordMeanings r flags acm)
   agree = agrees (lit< tt) (record-exactly r) & agrees (lit< tt) (worthy-or-allowed-exactly flags r) & agrees (lit< tt) (reached-exactly acm r) & tt
 
   abbrev rs : List Rule
@@ -65,11 +65,6 @@ module _ (r : List ℕ) (flags acm : ℕ) where
 
   abbrev kind : RecordAnswer
   kind = kindOf (policyType r)
-
-  -- the number of the answer is that of the first rule that fails
-  pub number-is-first : numberOf (recordOf r flags acm) ≡ firstFailing rs
-  unfolding recordOf
-  number-is-first = number-of answers.Refused kind numberOf (is-number (policyType r) (eqb (policyType r) LIST)) (λ n. refl) (firstFailing rs)
 
   -- LIST or ANY by the number and the type; a number is that of the first rule that fails
   pub list-exactly : (recordOf r flags acm ≡ answers.List) ↔ ((firstFailing rs ≡ 0) × (policyType r ≡ LIST))
@@ -92,7 +87,12 @@ module _ (r : List ℕ) (flags acm : ℕ) where
 
   -- no rule fails exactly where every rule says what is so
   pub all-say : (firstFailing rs ≡ 0) ↔ AllSay (recordMeanings r flags acm)
-  all-say = all-mean answers.Refused kind rs (recordMeanings r flags acm) agree
+  all-say = all-mean rs (recordMeanings r flags acm) agree
+
+pub number-is-first : NumberIsFirst
+unfolding recordOf
+number-is-first r flags acm =
+    number-of answers.Refused (kind r flags acm) numberOf (is-number (policyType r) (eqb (policyType r) LIST)) (λ n. refl) (firstFailing (rs r flags acm))
 
 pub answer-exactly : AnswerExactly
 unfolding recordOf

@@ -1,5 +1,5 @@
 -- What rules 23 to 29 say, as plain propositions, and that the tests say exactly this. Each statement that ends in `Exactly` is proved under the same
--- name in small letters: proofs/Conditions.antt, RecordAnswers.antt, Readings.antt and Permission.antt.
+-- name in small letters: proofs/Conditions.antt, RecordAnswers.antt, Readings.antt, Permission.antt and FileRules.antt.
 use Prim.Native.Nat.{ℕ, _+_, _/_, _%_, _^_, _≤_, _<_}
 use mathlib.Core.Path.{_≡_}
 use mathlib.Core.Logic.{_↔_, _⊎_}
@@ -8,7 +8,7 @@ use mathlib.Core.List.{List, [], _∷_, flatMap}
 use mathlib.Core.Option.{some}
 use lib.ListN.{length, getElem?}
 use Rattle.field.specs.Number.{Bytes}
-use Rattle.rules.specs.Rules.{all}
+use Rattle.rules.specs.Rules.{all, firstFailing}
 use Rattle.rules.specs.Meaning.{Meaning, meaning, AllSay, FirstBroken}
 use Rattle.sha256.specs.Message.{sha256}
 use Rattle.policy_grammar.specs.Grammar.{Launch, Element, PolicyList, Reading, Makes}
@@ -16,8 +16,8 @@ use Rattle.policy_grammar.specs.Grammar as Grammar
 use Rattle.policy_grammar.specs.Decode.{leastFile, largestFile}
 use Rattle.decision.specs.declared.Criteria.{Criteria}
 use Rattle.decision.specs.declared.RecordAnswer.the-variants as answers
-use Rattle.decision.specs.Record.{recordSize, versionHigh, knownVersion, hashAlg, sha256Alg, policyType, LIST, ANY, sinitMinVersion, control, policyHash, recordTests, worthyOrAllowed, versionReached}
-use Rattle.decision.specs.Answers.{recordOf}
+use Rattle.decision.specs.Record.{recordSize, versionHigh, knownVersion, hashAlg, sha256Alg, policyType, LIST, ANY, sinitMinVersion, control, policyHash, recordTests, worthyOrAllowed, versionReached, recordRules}
+use Rattle.decision.specs.Answers.{numberOf, recordOf, fileRules}
 use Rattle.decision.specs.Lists.{filePlaced, ofGrammar, listsOf, measure, hashMatches, launchType, customType, judged, names, somePermits, noList, lowestPermitting}
 
 -- 23
@@ -53,9 +53,17 @@ pub record Placed (w : List ℕ) (window base size : ℕ) : Type 0 where
 abbrev pub OfGrammar : List ℕ → Type 0
 OfGrammar file = (r : Reading) × Makes r file
 
+-- 28 and 29 speak of the reading that makes the file: there is one, and something is so of it
+abbrev pub SomeReading : List ℕ → (Reading → Type 0) → Type 0
+SomeReading file P = (r : Reading) × (Makes r file × P r)
+
 -- 28, of the lists of a reading
 abbrev pub HashMatches : Reading → List ℕ → Type 0
 HashMatches reading r = sha256 (flatMap measure (reading .lists)) ≡ policyHash r
+
+-- the rules of the file, in the order they are tried
+abbrev pub fileMeanings : List ℕ → List ℕ → List Meaning
+fileMeanings file r = meaning 27 (OfGrammar file) ∷ meaning 28 (SomeReading file (λ (reading : Reading). HashMatches reading r)) ∷ []
 
 -- 29: some one element of type 0x10 with HashAlg 0x000B has the digest among its digests, and a SINITMinVersion that AcmVersion reaches
 pub record Names (k : Criteria) (e : Element) : Type 0 where
@@ -92,6 +100,10 @@ pub record Lowest (reading : Reading) (k : Criteria) (i : ℕ) : Type 0 where
 
 -- THE TESTS SAY THIS
 
+-- the number of the answer for a record is that of the first rule that fails
+abbrev pub NumberIsFirst : Type 0
+NumberIsFirst = (r : List ℕ) (flags acmVersion : ℕ) → numberOf (recordOf r flags acmVersion) ≡ firstFailing (recordRules r flags acmVersion)
+
 abbrev pub RecordExactly : Type 0
 RecordExactly = (r : List ℕ) → (all (recordTests r) ≡ true) ↔ Record r
 
@@ -127,6 +139,12 @@ ListsExactly = (file : List ℕ) (reading : Reading) → Reads file reading → 
 
 abbrev pub HashExactly : Type 0
 HashExactly = (file r : List ℕ) (reading : Reading) → Reads file reading → (hashMatches file r ≡ true) ↔ HashMatches reading r
+
+-- the number of the first rule of the file that fails is that of the first that is broken
+abbrev pub FileExactly : Type 0
+FileExactly =
+    (file r : List ℕ) → Bytes file → length file ≤ largestFile
+    → (n : ℕ) → 0 < n → (firstFailing (fileRules file r) ≡ n) ↔ FirstBroken (fileMeanings file r) n
 
 abbrev pub PermitsExactly : Type 0
 PermitsExactly = (file : List ℕ) (k : Criteria) (reading : Reading) → Reads file reading → (somePermits file k ≡ true) ↔ SomePermits reading k

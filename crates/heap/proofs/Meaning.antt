@@ -11,13 +11,14 @@ use lib.ListN.{length}
 use Rattle.range.specs.Range.{highestEnd}
 use Rattle.range.proofs.Ranges.{ends-exactly}
 use Rattle.rules.specs.Rules.{firstFailing}
+use Rattle.rules.specs.Meaning.{AllSay}
 use Rattle.rules.proofs.Tests.{eqb-exactly, leb-exactly, or-exactly, and-exactly, _&_}
-use Rattle.rules.proofs.Meaning.{Agree, agrees}
-use Rattle.rules.proofs.Answers.{number-of, value-exactly, number-exactly, all-mean, number-means}
+use Rattle.rules.proofs.Meaning.{Agree, agrees, all-mean}
+use Rattle.rules.proofs.Answers.{number-of, value-exactly, number-exactly, number-means}
 use Rattle.heap.specs.declared.OsSinitData.{OsSinitData}
 use Rattle.heap.specs.declared.HeapAnswer.the-variants.{OsSinit, Refused}
 use Rattle.heap.specs.Heap.{osSinitPart, leastPart, versionKnown, lowLimit, lowPlaced, highPlaced, pmrsPlaced, lowPmr, highPmr, heapRules, numberOf, heapFields, heapElements, heapOf}
-use Rattle.heap.specs.Meaning.{Supported, PmrsPlaced, HeapHolds, heapMeanings, AcceptedExactly, RefusedExactly}
+use Rattle.heap.specs.Meaning.{Supported, PmrsPlaced, HeapHolds, heapMeanings, NumberIsFirst, AcceptedExactly, RefusedExactly}
 use Rattle.heap.proofs.Sizes.{parts-exactly}
 use Rattle.heap.proofs.Elements.{elements-exactly}
 
@@ -57,7 +58,7 @@ same : (m n : ℕ) → Refused m ≡ Refused n → m ≡ n
 same m n e = cc
 
 module _ (heap : List ℕ) where
-  agree : Agree (heapRules heap) (heapMeanings heap)
+  pub agree : Agree (heapRules heap) (heapMeanings heap)
   agree =
       agrees (lit< tt) (parts-exactly heap)
       & agrees (lit< tt) (supported-exactly heap)
@@ -65,18 +66,17 @@ module _ (heap : List ℕ) where
       & agrees (lit< tt) (pmrs-exactly (heapFields heap))
       & tt
 
+  pub holds-exactly : AllSay (heapMeanings heap) ↔ HeapHolds heap
+  holds-exactly = (
+    λ h. record { parts = h .0; supported = h .1 .0; elements = h .1 .1 .0; pmrs = h .1 .1 .1 .0 },
+    λ h. h .parts & h .supported & h .elements & h .pmrs & tt,
+  )
+
   -- no rule fails exactly where every rule holds
   pub all-hold : (firstFailing (heapRules heap) ≡ 0) ↔ HeapHolds heap
   all-hold =
-      let say = all-mean Refused (OsSinit (heapFields heap)) (heapRules heap) (heapMeanings heap) agree in (
-        λ e. let h = say .0 e in record { parts = h .0; supported = h .1 .0; elements = h .1 .1 .0; pmrs = h .1 .1 .1 .0 },
-        λ h. say .1 (h .parts & h .supported & h .elements & h .pmrs & tt),
-      )
-
-  -- the number of the answer is that of the first rule that fails
-  pub number-first : numberOf (heapOf heap) ≡ firstFailing (heapRules heap)
-  unfolding heapOf numberOf
-  number-first = number-of Refused (OsSinit (heapFields heap)) numberOf refl (λ n. refl) (firstFailing (heapRules heap))
+      let say = all-mean (heapRules heap) (heapMeanings heap) agree in
+      (λ e. holds-exactly .0 (say .0 e), λ h. say .1 (holds-exactly .1 h))
 
   -- where fields are answered, no rule fails, and they are those of OsSinitData; a number is that of the first rule that fails
   pub fields-exactly : (o : OsSinitData) → (heapOf heap ≡ OsSinit o) ↔ ((firstFailing (heapRules heap) ≡ 0) × (o ≡ heapFields heap))
@@ -88,6 +88,10 @@ module _ (heap : List ℕ) where
   pub refusal-exactly : (n : ℕ) → (heapOf heap ≡ Refused n) ↔ ((0 < n) × (firstFailing (heapRules heap) ≡ n))
   unfolding heapOf
   refusal-exactly n = number-exactly Refused (OsSinit (heapFields heap)) (λ k e. different _ k (sym e)) same (firstFailing (heapRules heap)) n
+
+pub number-is-first : NumberIsFirst
+unfolding heapOf numberOf
+number-is-first heap = number-of Refused (OsSinit (heapFields heap)) numberOf refl (λ n. refl) (firstFailing (heapRules heap))
 
 pub accepted-exactly : AcceptedExactly
 accepted-exactly heap o =

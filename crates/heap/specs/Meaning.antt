@@ -5,10 +5,11 @@ use mathlib.Core.Logic.{_↔_, _⊎_}
 use mathlib.Core.List.{List, [], _∷_}
 use lib.ListN.{length}
 use Rattle.range.specs.Range.{endOf, highestEnd}
+use Rattle.rules.specs.Rules.{firstFailing}
 use Rattle.rules.specs.Meaning.{Meaning, meaning, FirstBroken}
 use Rattle.heap.specs.declared.OsSinitData.{OsSinitData}
 use Rattle.heap.specs.declared.HeapAnswer.the-variants.{OsSinit, Refused}
-use Rattle.heap.specs.Heap.{biosDataSize, osMleDataSize, osSinitDataAt, osSinitDataSize, leastSize, osSinitPart, leastPart, heapFields, heapElements, typeAt, sizeAt, lowPmr, highPmr, lowLimit, heapOf}
+use Rattle.heap.specs.Heap.{biosDataSize, osMleDataSize, osSinitDataAt, osSinitDataSize, leastSize, osSinitPart, leastPart, heapFields, heapElements, typeAt, sizeAt, lowPmr, highPmr, lowLimit, heapRules, numberOf, heapOf}
 
 -- rule 2
 pub record PartsFit (heap : List ℕ) : Type 0 where
@@ -65,6 +66,10 @@ heapMeanings heap =
     ∷ meaning 4 (ElementsEnd (heapElements heap))
     ∷ meaning 5 (PmrsPlaced (heapFields heap))
     ∷ []
+
+-- the number of the answer is that of the first rule that fails
+abbrev pub NumberIsFirst : Type 0
+NumberIsFirst = (heap : List ℕ) → numberOf (heapOf heap) ≡ firstFailing (heapRules heap)
 
 -- the answer is the fields of OsSinitData exactly where all rules hold
 abbrev pub AcceptedExactly : Type 0

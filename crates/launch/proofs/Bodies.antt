@@ -18,7 +18,7 @@ use Rattle.launch.specs.declared.FindAnswer.{FindAnswer}
 use Rattle.launch.specs.declared.FindAnswer.the-variants as finds
 use Rattle.launch.specs.Rules.{Input, inputOf, memoryFrom, chipsetOf, platformTests}
 use Rattle.launch.specs.Answer.{answerOf, placesOf}
-use Rattle.launch.specs.Inner.{findStage, judged}
+use Rattle.launch.specs.Inner.{findStage, outcomeOf}
 use Rattle.launch.specs.Bodies.{BodiesNeverMatter}
 use Rattle.launch.proofs.Finding.{platform-refuses, heap-refuses, module-refuses, module-passes}
 use Rattle.launch.proofs.Whole.{find-refuses, find-passes, answer-is, places-are}
@@ -54,10 +54,10 @@ module _ (w s r : List ℕ) (p : Platform) (n : ℕ) where
         by true t = by-heap t (heapOf h) refl
         by false t = sym (platform-refuses w h s r p n t) ∙ platform-refuses w k s r p n (sym same-tests ∙ t)
 
-    same-judged : judged (with h) ≡ judged (with k)
-    same-judged = by (findStage (with h)) refl
+    same-outcome : outcomeOf (with h) ≡ outcomeOf (with k)
+    same-outcome = by (findStage (with h)) refl
       where
-        by : (a : FindAnswer) → findStage (with h) ≡ a → judged (with h) ≡ judged (with k)
+        by : (a : FindAnswer) → findStage (with h) ≡ a → outcomeOf (with h) ≡ outcomeOf (with k)
         by (finds.Refused m) e = sym (find-refuses (with h) m e) ∙ find-refuses (with k) m (sym same-find ∙ e)
         by (finds.Complete f) e = sym (find-passes (with h) f e) ∙ find-passes (with k) f (sym same-find ∙ e)
 
@@ -69,7 +69,7 @@ pub bodies-never-matter : BodiesNeverMatter
 bodies-never-matter i j places s =
     let moved : i ≡ withHeap j (i .heap) =
     λ k. record { window = s .window k; heap = i .heap; sinit = s .sinit k; policyRecord = s .policyRecord k; platform = s .platform k; places = s .places k } in
-    let verdicts = same-judged (j .window) (j .sinit) (j .policyRecord) (j .platform) (j .places) (i .heap) (j .heap) (s .heap .lengths) (heap.bodies-never-matter _ _ (s .heap)) in (
-      ap answerOf moved ∙ sym (answer-is (withHeap j (i .heap)) _ refl) ∙ answer-is j _ verdicts,
-      ap (λ (x : Input). placesOf x places) moved ∙ sym (places-are (withHeap j (i .heap)) places _ refl) ∙ places-are j places _ verdicts,
+    let outcomes = same-outcome (j .window) (j .sinit) (j .policyRecord) (j .platform) (j .places) (i .heap) (j .heap) (s .heap .lengths) (heap.bodies-never-matter _ _ (s .heap)) in (
+      ap answerOf moved ∙ sym (answer-is (withHeap j (i .heap)) _ refl) ∙ answer-is j _ outcomes,
+      ap (λ (x : Input). placesOf x places) moved ∙ sym (places-are (withHeap j (i .heap)) places _ refl) ∙ places-are j places _ outcomes,
     )

@@ -1,4 +1,4 @@
--- What the policy decides, rules 23 to 29: what one group of rules makes of the verdict by all of them.
+-- What the policy decides, rules 23 to 29: what one group of rules makes of the outcome by all of them.
 use Prim.Native.Nat.{ℕ}
 use mathlib.Core.Path.{_≡_, refl, sym, _∙_}
 use mathlib.Core.Bool.{true, false, cond}
@@ -19,7 +19,7 @@ use Rattle.decision.specs.Answers.{recordOf, fileRules}
 use Rattle.decision.proofs.RecordAnswers.{list-exactly, any-exactly, refusal-exactly}
 use Rattle.decision.proofs.Permission.{reported-exactly}
 use Rattle.launch.specs.declared.Found.{Found}
-use Rattle.launch.specs.declared.Verdict.{Verdict}
+use Rattle.launch.specs.declared.Outcome.{Outcome}
 use Rattle.launch.specs.Rules.{policyFile, criteria, listRules}
 use Rattle.launch.specs.Answer.{listFor}
 use Rattle.launch.specs.Inner.{refusal, permissionWith, permission, fileStage, listStage, decideStage}
@@ -56,7 +56,7 @@ module _ (w r : List ℕ) (f : Found) where
   abbrev file : List ℕ
   file = policyFile w f
 
-  abbrev permitting : Verdict
+  abbrev permitting : Outcome
   permitting = permission w f (lowest w file f)
 
   pub not-placed : all (filePlaced w (f .«window_base») (f .«policy_file» .base) (f .«policy_file» .size)) ≡ false → refusal 26 ≡ listStage w r f
@@ -89,21 +89,21 @@ module _ (w r : List ℕ) (f : Found) where
   abbrev later : List Rule
   later = cond (eqb (policyType r) LIST) (listRules w r f) []
 
-  abbrev verdict : Verdict
-  verdict = permission w f (listFor w r f)
+  abbrev outcome : Outcome
+  outcome = permission w f (listFor w r f)
 
-  record-passes : firstFailing rules ≡ 0 → answerBy refusal verdict later ≡ decideStage w r f
+  record-passes : firstFailing rules ≡ 0 → answerBy refusal outcome later ≡ decideStage w r f
   unfolding decideStage
-  record-passes e = group-passes refusal verdict rules later (numbers-not-0 23 25 rules (lit< tt) (record-group r (f .flags) (f .«acm_version») .numbers)) e
+  record-passes e = group-passes refusal outcome rules later (numbers-not-0 23 25 rules (lit< tt) (record-group r (f .flags) (f .«acm_version») .numbers)) e
 
   pub record-refuses : (n : ℕ) → recordOf r (f .flags) (f .«acm_version») ≡ records.Refused n → refusal n ≡ decideStage w r f
   unfolding decideStage
-  record-refuses n e = let a = refusal-exactly r _ _ n .0 e in group-refuses refusal verdict rules later n (a .0) (a .1)
+  record-refuses n e = let a = refusal-exactly r _ _ n .0 e in group-refuses refusal outcome rules later n (a .0) (a .1)
 
   pub record-any : recordOf r (f .flags) (f .«acm_version») ≡ records.Any → permission w f noList ≡ decideStage w r f
   record-any e =
       let a = any-exactly r _ _ .0 e in
-      let none : permission w f noList ≡ answerBy refusal verdict later =
+      let none : permission w f noList ≡ answerBy refusal outcome later =
       rw (ne-eqb (policyType r) LIST (a .1)) (permits refusal (permission w f noList) [] refl) in
       none ∙ record-passes (a .0)
 
@@ -111,5 +111,5 @@ module _ (w r : List ℕ) (f : Found) where
   unfolding listStage
   record-list e =
       let a = list-exactly r _ _ .0 e in
-      let under : listStage w r f ≡ answerBy refusal verdict later = rw (eq-eqb (policyType r) LIST (a .1)) in
+      let under : listStage w r f ≡ answerBy refusal outcome later = rw (eq-eqb (policyType r) LIST (a .1)) in
       under ∙ record-passes (a .0)

@@ -1,49 +1,60 @@
--- Demand 1: `demand1`. The number is that of the first rule that fails, and with any number but 0 the answer is a refusal that writes nothing.
+-- Demand 1: `demand1`. The number is that of the first rule that fails, and of the first that is broken, and with any number but 0 the answer is a
+-- refusal that writes nothing.
 use Prim.Native.Nat.{ℕ, _≤_, _<_}
 use mathlib.Core.Path.{_≡_, refl, sym, _∙_, ap}
 use mathlib.Core.Logic.{_↔_, _≢_}
 use mathlib.Core.List.{List}
 use native.Mathlib.Omega.{arith}
+use Rattle.field.specs.Number.{Bytes}
 use Rattle.rules.specs.Rules.{firstFailing, FirstFails}
+use Rattle.rules.specs.Meaning.{FirstBroken}
 use Rattle.rules.proofs.Rules.{first-exactly, number-most}
 use Rattle.rules.proofs.Answers.{for-zero, for-other, number-of}
 use Rattle.mle.specs.Image.{pageList}
 use Rattle.launch.specs.declared.Answer.{Answer}
 use Rattle.launch.specs.Rules.{Input, image, rules}
-use Rattle.launch.specs.Answer.{refused, permitted, numberOf, answerOf, placesOf}
+use Rattle.launch.specs.Answer.{refused, permitted, answerOf, placesOf}
+use Rattle.launch.specs.Meaning.{meanings}
 use Rattle.launch.specs.Demand1.{Refusal, Demand1}
 use Rattle.launch.proofs.Order.{all-group}
+use Rattle.launch.proofs.Meaning.{first-broken}
 
 module _ (i : Input) where
+  abbrev number : ℕ
+  number = firstFailing (rules i)
+
   -- the answer by its number
-  pub answer-refused : numberOf i ≢ 0 → answerOf i ≡ refused (numberOf i)
-  unfolding answerOf numberOf
-  answer-refused h = for-other refused (permitted i) (firstFailing (rules i)) h
+  pub answer-refused : number ≢ 0 → answerOf i ≡ refused number
+  unfolding answerOf
+  answer-refused h = for-other refused (permitted i) number h
 
-  pub answer-permitted : numberOf i ≡ 0 → answerOf i ≡ permitted i
-  unfolding answerOf numberOf
-  answer-permitted e = for-zero refused (permitted i) (firstFailing (rules i)) e
+  pub answer-permitted : number ≡ 0 → answerOf i ≡ permitted i
+  unfolding answerOf
+  answer-permitted e = for-zero refused (permitted i) number e
 
-  pub places-refused : numberOf i ≢ 0 → (places : List ℕ) → placesOf i places ≡ places
-  unfolding placesOf numberOf
-  places-refused h places = for-other (λ (n : ℕ). places) (pageList (i .window) (image i) places) (firstFailing (rules i)) h
+  pub places-refused : number ≢ 0 → (places : List ℕ) → placesOf i places ≡ places
+  unfolding placesOf
+  places-refused h places = for-other (λ (n : ℕ). places) (pageList (i .window) (image i) places) number h
 
-  pub places-permitted : numberOf i ≡ 0 → (places : List ℕ) → placesOf i places ≡ pageList (i .window) (image i) places
-  unfolding placesOf numberOf
-  places-permitted e places = for-zero (λ (n : ℕ). places) (pageList (i .window) (image i) places) (firstFailing (rules i)) e
+  pub places-permitted : number ≡ 0 → (places : List ℕ) → placesOf i places ≡ pageList (i .window) (image i) places
+  unfolding placesOf
+  places-permitted e places = for-zero (λ (n : ℕ). places) (pageList (i .window) (image i) places) number e
 
-  pub number-is : answerOf i .number ≡ numberOf i
-  unfolding answerOf numberOf
-  number-is = number-of refused (permitted i) (λ (a : Answer). a .number) refl (λ n. refl) (firstFailing (rules i))
+  pub number-is : answerOf i .number ≡ number
+  unfolding answerOf
+  number-is = number-of refused (permitted i) (λ (a : Answer). a .number) refl (λ n. refl) number
 
   one : (n : ℕ) → 0 < n → (answerOf i .number ≡ n) ↔ FirstFails (rules i) n
-  unfolding numberOf
   one n z =
       let f = first-exactly (rules i) n z in
       (λ e. f .0 (sym number-is ∙ e), λ h. number-is ∙ f .1 h)
 
+  meant : Bytes (i .window) → (n : ℕ) → 0 < n → (answerOf i .number ≡ n) ↔ FirstBroken (meanings i) n
+  meant b n z =
+      let f = first-broken i b n z in
+      (λ e. f .0 (sym number-is ∙ e), λ h. number-is ∙ f .1 h)
+
   most : answerOf i .number ≤ 29
-  unfolding numberOf
   most = rw number-is (number-most 1 29 (rules i) (all-group i .numbers))
 
   refusal : (places : List ℕ) → answerOf i .number ≢ 0 → Refusal i places
@@ -58,4 +69,4 @@ module _ (i : Input) where
       }
 
 pub demand1 : Demand1
-demand1 i places = record { refusal = refusal i places; one = one i; most = most i; order = all-group i .order }
+demand1 i places = record { refusal = refusal i places; one = one i; meant = meant i; most = most i; order = all-group i .order }

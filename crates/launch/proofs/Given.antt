@@ -1,6 +1,6 @@
 -- What a permission gives: the pages in the caller's list, their order and places, the bytes behind the digest, and the list that permits.
-use Prim.Native.Nat.{ℕ, zero, suc, _+_, _-_, _≤_, _<_}
-use mathlib.Core.Path.{_≡_, refl, sym, _∙_, ap, subst}
+use Prim.Native.Nat.{ℕ, zero, suc, _+_, _≤_, _<_}
+use mathlib.Core.Path.{_≡_, refl, sym, _∙_, ap}
 use mathlib.Core.Logic.{_≢_}
 use mathlib.Core.List.{List, _++_, flatMap}
 use native.Mathlib.Omega.{arith}
@@ -23,16 +23,15 @@ use Rattle.decision.specs.Record.{policyType, LIST, ANY}
 use Rattle.decision.specs.Lists.{noList, lowestPermitting}
 use Rattle.decision.proofs.Permission.{lowest-exactly, lowest-most}
 use Rattle.launch.specs.declared.Answer.{Answer}
-use Rattle.launch.specs.Rules.{Input, os, memory, image, found, findRules, policyFile, criteria}
-use Rattle.launch.specs.Answer.{numberOf, answerOf, placesOf}
-use Rattle.launch.specs.Permitted.{N, pagesFrom}
+use Rattle.launch.specs.Rules.{Input, os, memory, image, found, policyFile, criteria, rules}
+use Rattle.launch.specs.Answer.{answerOf, placesOf}
+use Rattle.launch.specs.Permitted.{N}
 use Rattle.launch.specs.Demand2.{page, memoryAt, LowestPermits, Permission}
 use Rattle.launch.proofs.Demand1.{answer-permitted, places-permitted}
-use Rattle.launch.proofs.Finds.{Finds, finds}
-use Rattle.launch.proofs.Decides.{Decides, reads}
-use Rattle.launch.proofs.Permitting.{both}
+use Rattle.launch.proofs.Meaning.{reads, all-say}
+use Rattle.launch.proofs.Permitting.{Said, said, walks}
 
-module _ (i : Input) (places : List ℕ) (b : Bytes (i .window)) (told : length places ≡ i .places) (e : numberOf i ≡ 0) where
+module _ (i : Input) (places : List ℕ) (b : Bytes (i .window)) (told : length places ≡ i .places) (e : firstFailing (rules i) ≡ 0) where
   abbrev w : List ℕ
   w = i .window
 
@@ -42,22 +41,19 @@ module _ (i : Input) (places : List ℕ) (b : Bytes (i .window)) (told : length 
   abbrev first : ℕ
   first = im .first
 
-  stages : (firstFailing (findRules i) ≡ 0) × Decides w (i .policyRecord) (found i)
-  stages = both i b e
-
-  found-pages : Finds i first × (im ≡ pagesFrom i first)
-  found-pages = finds i (stages .0)
+  says : Said i
+  says = said i .0 (all-say i b .0 e)
 
   counted : im .count ≡ N i
-  counted = ap (λ (x : Image). x .count) (found-pages .1)
+  counted = says .counted
 
   enough : im .count ≤ length places
-  enough = omega (arith, counted, found-pages .0 .room)
+  enough = omega (arith, counted, says .room)
 
   -- THE PAGES
 
   walked : Walked w (memory i) (os i .«page_table_base») first (N i)
-  walked = found-by-walk _ _ _ _ _ (mapped-exactly w (memory i) (os i .«page_table_base») first (N i) .1 (found-pages .0 .walk))
+  walked = found-by-walk _ _ _ _ _ (mapped-exactly w (memory i) (os i .«page_table_base») first (N i) .1 (walks i says))
 
   page-is : (k : ℕ) → k < N i → page i places k ≡ addressOf (entry w (memory i) (os i .«page_table_base») Page (first + k))
   unfolding addressAt
@@ -114,17 +110,17 @@ module _ (i : Input) (places : List ℕ) (b : Bytes (i .window)) (told : length 
 
   lowest : policyType (i .policyRecord) ≡ LIST → LowestPermits i places
   lowest q =
-      let h = stages .1 .lists q in
-      let read = reads w (i .policyRecord) (found i) b (h .placed) (h .reading) (h .grammar) in
+      let (reading, (makes, permits)) = says .lists q .1 .1 .1 .0 in
+      let read = reads i b reading makes in
       let k = criteria w (found i) in
       let reported = lowestPermitting (policyFile w (found i)) k in
-      let laws = lowest-exactly (policyFile w (found i)) k (h .reading) read in
-      let most = lowest-most (policyFile w (found i)) k (h .reading) read in
-      let not-none : reported ≢ noList = λ z. laws .1 .0 z (h .permits) in
+      let laws = lowest-exactly (policyFile w (found i)) k reading read in
+      let most = lowest-most (policyFile w (found i)) k reading read in
+      let not-none : reported ≢ noList = λ z. laws .1 .0 z permits in
       let is-list : answerOf i .list ≡ reported = ap (λ (a : Answer). a .list) (answer-permitted i e) ∙ rw (eq-eqb (policyType (i .policyRecord)) LIST q) in
       record {
-        reading = h .reading;
-        grammar = h .grammar;
+        reading = reading;
+        grammar = makes;
         lowest = rw (digest-is, is-list) (laws .0 reported (omega (arith, most, not-none)) .0 refl);
       }
 

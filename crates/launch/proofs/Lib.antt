@@ -4,10 +4,9 @@ mod Conditions
 mod Finding
 mod Deciding
 mod Whole
+pub mod Meaning
 pub mod Demand1
-mod Finds
-mod Decides
-mod Permitting
+pub mod Permitting
 mod Given
 mod Last
 pub mod Demand2

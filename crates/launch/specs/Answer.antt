@@ -4,7 +4,7 @@ use mathlib.Core.Bool.{cond}
 use mathlib.Core.List.{List}
 use lib.Dec.{eqb}
 use lib.ListN.{replicate}
-use Rattle.rules.specs.Rules.{firstFailing, answerBy}
+use Rattle.rules.specs.Rules.{answerBy}
 use Rattle.mle.specs.Image.{imageDigest, pageList}
 use Rattle.decision.specs.Record.{policyType, LIST}
 use Rattle.decision.specs.Lists.{noList, lowestPermitting}
@@ -30,10 +30,7 @@ permitted i =
       digest = imageDigest (i .window) (image i);
     }
 
--- the number of the first rule that fails, 0 where all hold
-unfoldable pub numberOf : Input → ℕ
-numberOf i = firstFailing (rules i)
-
+-- a refusal with the number of the first rule that fails, the permission where all hold
 unfoldable pub answerOf : Input → Answer
 answerOf i = answerBy refused (permitted i) (rules i)
 

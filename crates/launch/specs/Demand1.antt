@@ -5,10 +5,13 @@ use mathlib.Core.Path.{_≡_}
 use mathlib.Core.Logic.{_↔_, _≢_, _⊎_}
 use mathlib.Core.List.{List, [], _∷_}
 use lib.ListN.{replicate}
+use Rattle.field.specs.Number.{Bytes}
 use Rattle.rules.specs.Rules.{Rule, Every, FirstFails}
+use Rattle.rules.specs.Meaning.{FirstBroken}
 use Rattle.decision.specs.Lists.{noList}
 use Rattle.launch.specs.Rules.{Input, rules}
 use Rattle.launch.specs.Answer.{answerOf, placesOf}
+use Rattle.launch.specs.Meaning.{meanings}
 
 -- a refusal: the number is that of a rule that fails while every rule tried before it holds; no pages, list 255, a digest of zeros, and every
 -- place of the page list as it was
@@ -31,10 +34,12 @@ abbrev pub InOrder : List Rule → Type 0
 InOrder [] = Unit
 InOrder (r ∷ rs) = Every (MayPrecede r) rs × InOrder rs
 
--- every number but 0 is a refusal, and it is the one that the order of the rules names; no number is over 29
+-- every number but 0 is a refusal, and it is the one that the order of the rules names: that of the first whose test fails and, for a window that is
+-- a string of bytes, of the first that says what is not so; no number is over 29
 pub record OneNumber (i : Input) (places : List ℕ) : Type 0 where
   pub refusal : answerOf i .number ≢ 0 → Refusal i places
   pub one : (n : ℕ) → 0 < n → (answerOf i .number ≡ n) ↔ FirstFails (rules i) n
+  pub meant : Bytes (i .window) → (n : ℕ) → 0 < n → (answerOf i .number ≡ n) ↔ FirstBroken (meanings i) n
   pub most : answerOf i .number ≤ 29
   pub order : InOrder (rules i)
 

@@ -11,7 +11,7 @@ use Rattle.decision.specs.Lists.{somePermits, lowestPermitting}
 use Rattle.launch.specs.declared.Found.{Found}
 use Rattle.launch.specs.declared.FindAnswer.{FindAnswer}
 use Rattle.launch.specs.declared.FindAnswer.the-variants.{Complete, Refused}
-use Rattle.launch.specs.declared.Verdict.{Verdict}
+use Rattle.launch.specs.declared.Outcome.{Outcome}
 use Rattle.launch.specs.Rules.{Input, imageRules, pageRules, imageFound, foundOf, found, findRules, policyFile, criteria, listRules, decideRules, rules}
 use Rattle.launch.specs.Answer.{refused, listFor}
 
@@ -34,28 +34,28 @@ findStage i = answerBy Refused (Complete (found i)) (findRules i)
 abbrev pub noImage : Image
 noImage = record { window = 0; tables = 0; first = 0; count = 0 }
 
-abbrev pub refusal : ℕ → Verdict
+abbrev pub refusal : ℕ → Outcome
 refusal n = record { answer = refused n; image = noImage }
 
-abbrev pub permissionWith : Found → ℕ → List ℕ → Verdict
+abbrev pub permissionWith : Found → ℕ → List ℕ → Outcome
 permissionWith f list digest = record { answer = record { number = 0; pages = f .image .count; list = list; digest = digest }; image = f .image }
 
-abbrev pub permission : List ℕ → Found → ℕ → Verdict
+abbrev pub permission : List ℕ → Found → ℕ → Outcome
 permission window f list = permissionWith f list (imageDigest window (f .image))
 
 -- by rule 29 for a file, 26 to 29, 23 to 29
-unfoldable pub fileStage : List ℕ → List ℕ → Found → Verdict
+unfoldable pub fileStage : List ℕ → List ℕ → Found → Outcome
 fileStage window file f =
     answerBy refusal (permission window f (lowestPermitting file (criteria window f))) (rule 29 (somePermits file (criteria window f)) ∷ [])
 
-unfoldable pub listStage : List ℕ → List ℕ → Found → Verdict
+unfoldable pub listStage : List ℕ → List ℕ → Found → Outcome
 listStage window policyRecord f =
     answerBy refusal (permission window f (lowestPermitting (policyFile window f) (criteria window f))) (listRules window policyRecord f)
 
-unfoldable pub decideStage : List ℕ → List ℕ → Found → Verdict
+unfoldable pub decideStage : List ℕ → List ℕ → Found → Outcome
 decideStage window policyRecord f = answerBy refusal (permission window f (listFor window policyRecord f)) (decideRules window policyRecord f)
 
 -- BOTH IN TURN
 
-unfoldable pub judged : Input → Verdict
-judged i = answerBy refusal (permission (i .window) (found i) (listFor (i .window) (i .policyRecord) (found i))) (rules i)
+unfoldable pub outcomeOf : Input → Outcome
+outcomeOf i = answerBy refusal (permission (i .window) (found i) (listFor (i .window) (i .policyRecord) (found i))) (rules i)

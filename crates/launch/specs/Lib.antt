@@ -3,6 +3,7 @@ pub mod Rules
 pub mod Answer
 pub mod Inner
 pub mod Permitted
+pub mod Meaning
 pub mod Demand1
 pub mod Demand2
 pub mod Bodies

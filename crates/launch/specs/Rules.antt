@@ -21,7 +21,8 @@ use Rattle.mle.specs.Image.{imageDigest}
 use Rattle.mle.specs.Header.{pagesOf, sizeTests, headerTests}
 use Rattle.decision.specs.declared.Criteria.{Criteria}
 use Rattle.decision.specs.Record.{policyType, LIST, recordRules}
-use Rattle.decision.specs.Lists.{filePlaced, fileOf, ofGrammar, hashMatches, somePermits}
+use Rattle.decision.specs.Lists.{filePlaced, fileOf, somePermits}
+use Rattle.decision.specs.Answers.{fileRules}
 use Rattle.launch.specs.declared.Platform.{Platform}
 use Rattle.launch.specs.declared.Found.{Found}
 
@@ -154,10 +155,8 @@ criteria window f = record { digest = imageDigest window (f .image); «acm_versi
 abbrev pub listRules : List ℕ → List ℕ → Found → List Rule
 listRules window policyRecord f =
     rule 26 (all (filePlaced window (f .«window_base») (f .«policy_file» .base) (f .«policy_file» .size)))
-    ∷ rule 27 (ofGrammar (policyFile window f))
-    ∷ rule 28 (hashMatches (policyFile window f) policyRecord)
-    ∷ rule 29 (somePermits (policyFile window f) (criteria window f))
-    ∷ []
+    -- 27 and 28
+    ∷ (fileRules (policyFile window f) policyRecord ++ (rule 29 (somePermits (policyFile window f) (criteria window f)) ∷ []))
 
 abbrev pub decideRules : List ℕ → List ℕ → Found → List Rule
 decideRules window policyRecord f =

@@ -2,7 +2,7 @@
 // passed.
 use crate::Answer;
 use crate::Found;
-use crate::Verdict;
+use crate::Outcome;
 use crate::refused;
 use decision::Criteria;
 use decision::RecordAnswer;
@@ -12,10 +12,10 @@ ghost use Rattle.decision.specs.Lists.{noList};
 ghost use Rattle.launch.specs.Inner as spec;
 
 // No pages, and the answer of a refusal.
-pub(crate) fn refusal(n: u32) -> Verdict
+pub(crate) fn refusal(n: u32) -> Outcome
     ensures { λ r. ⌜ r ≡ spec.refusal n ⌝ }
 {
-    Verdict {
+    Outcome {
         answer: refused(n),
         image: Image {
             window: 0,
@@ -27,7 +27,7 @@ pub(crate) fn refusal(n: u32) -> Verdict
 }
 
 // The pages, the list and the digest.
-fn permission(f: Found, list: u32, digest: [u8; 32]) -> Verdict
+fn permission(f: Found, list: u32, digest: [u8; 32]) -> Outcome
     ensures { λ r. ⌜ r ≡ spec.permissionWith f list digest ⌝ }
 {
     let image = f.image;
@@ -37,14 +37,14 @@ fn permission(f: Found, list: u32, digest: [u8; 32]) -> Verdict
         list: list,
         digest: digest,
     };
-    Verdict {
+    Outcome {
         answer: answer,
         image: image,
     }
 }
 
 // Rule 29, by the policy file.
-fn by_file(window: &[u8], file: &[u8], f: Found) -> Verdict
+fn by_file(window: &[u8], file: &[u8], f: Found) -> Outcome
     ensures { λ r. ⌜ r ≡ spec.fileStage (now (window .entry)) (now (file .entry)) f ⌝ }
 {
     let image = f.image;
@@ -61,7 +61,7 @@ fn by_file(window: &[u8], file: &[u8], f: Found) -> Verdict
 }
 
 // Rules 26 to 29.
-fn by_lists(window: &[u8], record: &[u8], f: Found) -> Verdict
+fn by_lists(window: &[u8], record: &[u8], f: Found) -> Outcome
     ensures { λ r. ⌜ r ≡ spec.listStage (now (window .entry)) (now («record» .entry)) f ⌝ }
 {
     let place = f.policy_file;
@@ -77,7 +77,7 @@ fn by_lists(window: &[u8], record: &[u8], f: Found) -> Verdict
 }
 
 // Under ANY every image is permitted.
-fn by_any(window: &[u8], f: Found) -> Verdict
+fn by_any(window: &[u8], f: Found) -> Outcome
     ensures { λ r. ⌜ r ≡ spec.permission (now (window .entry)) f noList ⌝ }
 {
     let image = f.image;
@@ -85,7 +85,7 @@ fn by_any(window: &[u8], f: Found) -> Verdict
 }
 
 // Rules 23 to 25, and 26 to 29 under LIST.
-pub(crate) fn decide(window: &[u8], record: &[u8], f: Found) -> Verdict
+pub(crate) fn decide(window: &[u8], record: &[u8], f: Found) -> Outcome
     ensures { λ r. ⌜ r ≡ spec.decideStage (now (window .entry)) (now («record» .entry)) f ⌝ }
 {
     match decision::kind(record, f.flags, f.acm_version) {

@@ -15,7 +15,7 @@ ghost use lib.ListN.{length};
 ghost use Rattle.launch.specs.Rules.{inputOf};
 ghost use Rattle.launch.specs.Answer as spec;
 ghost use Rattle.launch.specs.Answer.{answerOf, placesOf};
-ghost use Rattle.launch.specs.Inner.{judged};
+ghost use Rattle.launch.specs.Inner.{outcomeOf};
 
 // The numbers of the platform.
 pub struct Platform {
@@ -55,7 +55,7 @@ pub enum FindAnswer {
 }
 
 // The answer, and where the pages of the MLE are found, none on a refusal.
-pub struct Verdict {
+pub struct Outcome {
     pub answer: Answer,
     pub image: Image,
 }
@@ -80,8 +80,8 @@ fn judge(
     record: &[u8],
     platform: Platform,
     places: usize,
-) -> Verdict
-    ensures { λ r. ⌜ r ≡ judged (inputOf (now (window .entry)) (now (heap .entry)) (now (sinit .entry)) (now («record» .entry)) platform places) ⌝ }
+) -> Outcome
+    ensures { λ r. ⌜ r ≡ outcomeOf (inputOf (now (window .entry)) (now (heap .entry)) (now (sinit .entry)) (now («record» .entry)) platform places) ⌝ }
 {
     match find(window, heap, sinit, platform, places) {
         FindAnswer::Refused(n) => refusal(n),
@@ -101,8 +101,8 @@ pub fn check(
     ensures answer { λ r. ⌜ r ≡ answerOf (inputOf (now (window .entry)) (now (heap .entry)) (now (sinit .entry)) (now («record» .entry)) platform (length (now (pages .entry)))) ⌝ }
     ensures places { λ _. ⌜ now (pages .exit) ≡ placesOf (inputOf (now (window .entry)) (now (heap .entry)) (now (sinit .entry)) (now («record» .entry)) platform (length (now (pages .entry)))) (now (pages .entry)) ⌝ }
 {
-    let v = judge(window, heap, sinit, record, platform, pages.len());
-    let image = v.image;
+    let outcome = judge(window, heap, sinit, record, platform, pages.len());
+    let image = outcome.image;
     mle::write_pages(window, image, pages);
-    v.answer
+    outcome.answer
 }

@@ -3,7 +3,8 @@ use mathlib.Core.Path.{_≡_, sym, ap, _∙_}
 use mathlib.Core.List.{List, _++_}
 use Prim.Native.Nat.{ℕ}
 use Rattle.range.specs.declared.Range.{Range}
-use Rattle.rules.specs.Rules.{firstFailing, Numbered}
+use Rattle.rules.specs.Rules.{firstFailing}
+use Rattle.rules.proofs.Rules.{Numbered, first-append}
 use Rattle.rules.proofs.Meaning.{numbered}
 use Rattle.rules.proofs.Answers.{for-zero, for-other}
 use Rattle.pages.specs.declared.Kind.{Kind}
@@ -17,7 +18,7 @@ use Rattle.pages.specs.Rules.{startOf, baseRules, rulesFrom, walkRules, 
 use Rattle.pages.specs.Meaning.{baseMeanings, walkMeanings}
 use Rattle.pages.specs.Inner.{Tried}
 use Rattle.pages.proofs.Conditions.{base-agree, walk-agree}
-use Rattle.pages.proofs.Tried.{first-append, tried-then}
+use Rattle.pages.proofs.Tried.{tried-then}
 
 module _ (w : List ℕ) (m : Memory) (t : ℕ) where
   abbrev at : Kind → List Found

@@ -3,13 +3,13 @@ use Prim.Native.Nat.{ℕ, _%_, _<_}
 use mathlib.Core.Path.{_≡_, refl}
 use mathlib.Core.Logic.{_↔_}
 use mathlib.Core.Bool.{true, false≢true}
-use mathlib.Core.List.{List, [], _∷_, _++_}
+use mathlib.Core.List.{List, [], _∷_}
 use lib.Dec.{lit<}
 use Rattle.range.specs.declared.Range.{Range}
 use Rattle.range.specs.Range.{insideOf, clearOf, pageSize}
-use Rattle.rules.specs.Rules.{Rule, AllHold}
-use Rattle.rules.specs.Meaning.{Meaning, AllSay}
-use Rattle.rules.proofs.Meaning.{Agree, all-say, agrees}
+use Rattle.rules.specs.Rules.{AllHold}
+use Rattle.rules.specs.Meaning.{AllSay}
+use Rattle.rules.proofs.Meaning.{Agree, all-say, agrees, agree-append}
 use Rattle.rules.proofs.Tests.{_&_, and-exactly, or-exactly, eqb-exactly, ltb-exactly}
 use Rattle.range.proofs.Ranges.{inside-exactly, clear-exactly}
 use Rattle.pages.specs.declared.Kind.{Kind}
@@ -23,20 +23,6 @@ use Rattle.pages.specs.Rules.{startOf, afterEntry, baseRules, ownRules, 
 use Rattle.pages.specs.Meaning.{Within, Apart, Every, Some, Reserved, Placed, baseMeanings, ownMeanings, entryMeanings, meaningsFrom, walkMeanings}
 use Rattle.pages.proofs.Tests.{follows-exactly}
 use Rattle.pages.proofs.Bits.{reserved-exactly}
-
--- LISTS OF RULES
-
-pub all-append : (rs qs : List Rule) → AllHold (rs ++ qs) ↔ (AllHold rs × AllHold qs)
-all-append [] qs = (λ h. (tt, h), λ h. h .1)
-all-append (r ∷ rs) qs =
-    let rest = all-append rs qs in
-    (λ h. ((h .0, rest .0 (h .1) .0), rest .0 (h .1) .1), λ h. (h .0 .0, rest .1 (h .0 .1, h .1)))
-
-pub agree-append : (rs qs : List Rule) (ps os : List Meaning) → Agree rs ps → Agree qs os → Agree (rs ++ qs) (ps ++ os)
-agree-append [] qs [] os a b = b
-agree-append [] qs (p ∷ ps) os a b = absurd a
-agree-append (r ∷ rs) qs [] os a b = absurd a
-agree-append (r ∷ rs) qs (p ∷ ps) os a b = (a .0, agree-append rs qs ps os (a .1) b)
 
 -- RANGES
 

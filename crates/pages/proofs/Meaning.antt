@@ -20,7 +20,7 @@ use Rattle.pages.specs.Entry.{addressOf}
 use Rattle.pages.specs.Memory.{pageOf}
 use Rattle.pages.specs.Tables.{levelSize}
 use Rattle.pages.specs.Rules.{walkRules, endState, answerOf, walkOf, numberOf}
-use Rattle.pages.specs.Meaning.{Apart, position, entry, Present, named, Walks, walkMeanings, MappedExactly, RefusedExactly, FoundByWalk}
+use Rattle.pages.specs.Meaning.{Apart, position, entry, Present, named, Walks, walkMeanings, NumberIsFirst, MappedExactly, RefusedExactly, FoundByWalk}
 use Rattle.pages.proofs.Found.{in-level}
 use Rattle.pages.proofs.Conditions.{walk-agree}
 use Rattle.pages.proofs.Answer.{walk-numbered}
@@ -47,8 +47,7 @@ pub refused-answer : (k : ℕ) (s : State) (n : ℕ) → (answerOf k s ≡ Refus
 unfolding answerOf
 refused-answer k s n = number-exactly Refused (Mapped (s .first) (s .count)) (λ j e. different e) same k n
 
--- the number of the answer is that of the first rule that fails
-pub number-is-first : (w : List ℕ) (m : Memory) (t : ℕ) → numberOf (walkOf w m t) ≡ firstFailing (walkRules w m t)
+pub number-is-first : NumberIsFirst
 unfolding walkOf answerOf
 number-is-first w m t = number-of Refused (Mapped (endState w m t .first) (endState w m t .count)) numberOf refl (λ n. refl) (firstFailing (walkRules w m t))
 

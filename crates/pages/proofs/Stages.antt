@@ -4,6 +4,7 @@ use mathlib.Core.Path.{_≡_, _∙_}
 use mathlib.Core.Logic.{_↔_}
 use mathlib.Core.List.{List, _++_}
 use Rattle.rules.specs.Rules.{AllHold}
+use Rattle.rules.proofs.Rules.{all-append}
 use Rattle.pages.specs.declared.Kind.{Kind}
 use Rattle.pages.specs.declared.Kind.the-variants.{Pointer, Directory, Page}
 use Rattle.pages.specs.declared.Memory.{Memory}
@@ -12,7 +13,7 @@ use Rattle.pages.specs.Tables.{Found, levelSize, foundFrom, foundIn, fou
 use Rattle.pages.specs.Rules.{startOf, afterAll, baseRules, rulesFrom, walkRules, endState}
 use Rattle.pages.specs.Meaning.{entry}
 use Rattle.pages.proofs.Tried.{rules-append, after-append}
-use Rattle.pages.proofs.Conditions.{all-append, window}
+use Rattle.pages.proofs.Conditions.{window}
 
 module _ (w : List ℕ) (m : Memory) (t : ℕ) where
   abbrev pub level : Kind → List Found

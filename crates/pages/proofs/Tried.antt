@@ -1,44 +1,30 @@
 -- Entries tried in turn: the number is that of the first rule that fails, of all rules in order, and where it is 0 what was found is what all entries leave.
-use Prim.Native.Nat.{ℕ, zero, suc, _+_, _*_, _<_}
+use Prim.Native.Nat.{ℕ, zero, suc, _+_, _*_}
 use mathlib.Core.Path.{_≡_, refl, sym, ap, _∙_}
 use mathlib.Core.Logic.{⊎-elim}
-use mathlib.Core.Bool.{Bool, true, false, cond}
+use mathlib.Core.Bool.{true, false}
 use mathlib.Core.List.{List, [], _∷_, _++_, append-nil, append-assoc}
 use native.Mathlib.Omega.{arith}
 use Rattle.range.specs.declared.Range.{Range}
-use Rattle.rules.specs.Rules.{Rule, firstFailing, Numbered}
+use Rattle.rules.specs.Rules.{firstFailing, orElse}
 use Rattle.rules.specs.Meaning.{AllSay}
-use Rattle.rules.proofs.Meaning.{numbered}
-use Rattle.rules.proofs.Answers.{all-mean}
+use Rattle.rules.proofs.Rules.{Numbered, or-else-number, or-else-none, or-else-order, or-else-zero, first-append}
+use Rattle.rules.proofs.Meaning.{numbered, all-mean}
 use Rattle.pages.specs.declared.Kind.{Kind}
 use Rattle.pages.specs.declared.Kind.the-variants.{Pointer, Directory, Page}
 use Rattle.pages.specs.declared.Memory.{Memory}
 use Rattle.pages.specs.declared.levels.Run.{Run}
 use Rattle.pages.specs.declared.levels.State.{State}
-use Rattle.pages.specs.declared.WalkAnswer.the-variants.{Mapped, Refused}
 use Rattle.pages.specs.Entry.{presentOf, addressOf}
 use Rattle.pages.specs.Tables.{Found, entries, directoryAt, pageAt, foundOf, foundOne, foundFrom}
 use Rattle.pages.specs.Rules.{after, afterEntry, afterAll, entryRules, rulesFrom}
 use Rattle.pages.specs.Meaning.{ownMeanings, entryMeanings, meaningsFrom}
-use Rattle.pages.specs.Inner.{Room, orElse, Tried}
+use Rattle.pages.specs.Inner.{Room, Tried}
 use Rattle.pages.proofs.Found.{found-append, found-last}
 use Rattle.pages.proofs.Joined.{table-absent}
 use Rattle.pages.proofs.Conditions.{entry-agree, from-agree}
 
--- NUMBERS IN ORDER
-
-or-else-number : (n later : ℕ) → 0 < n → orElse n later ≡ n
-or-else-number zero later z = absurd (omega arith)
-or-else-number (suc n) later z = refl
-
-pub first-append : (rs qs : List Rule) → Numbered rs → firstFailing (rs ++ qs) ≡ orElse (firstFailing rs) (firstFailing qs)
-first-append [] qs z = refl
-first-append (r ∷ rs) qs z = by (r .holds) (first-append rs qs (z .1))
-  where
-    by : (b : Bool) → firstFailing (rs ++ qs) ≡ orElse (firstFailing rs) (firstFailing qs)
-        → cond b (firstFailing (rs ++ qs)) (r .number) ≡ orElse (cond b (firstFailing rs) (r .number)) (firstFailing qs)
-    by true e = e
-    by false e = sym (or-else-number (r .number) (firstFailing qs) (z .0))
+-- RULES IN ORDER
 
 module _ (window : Range) (m : Memory) where
   -- no rule has the number 0
@@ -58,23 +44,10 @@ after-append s (e ∷ es) fs = after-append (afterEntry s e) es fs
 
 -- ENTRIES TRIED
 
--- the number of three stages in order
-order : (n a b : ℕ) → orElse (orElse n a) b ≡ orElse n (orElse a b)
-order zero a b = refl
-order (suc n) a b = refl
-
-no-more : (n : ℕ) → n ≡ orElse n 0
-no-more zero = refl
-no-more (suc n) = refl
-
-zero-both : (n a : ℕ) → orElse n a ≡ 0 → (n ≡ 0) × (a ≡ 0)
-zero-both zero a e = (refl, e)
-zero-both (suc n) a e = absurd (omega arith)
-
 module _ (window : Range) (m : Memory) where
   pub tried-none : (r : Run) → Tried window m r r []
   unfolding rulesFrom
-  tried-none r = record { number = no-more (r .number); state = λ z. refl }
+  tried-none r = record { number = or-else-none (r .number); state = λ z. refl }
 
   -- nothing more is tried after a rule has failed
   pub tried-refused : (r : Run) (es : List Found) → (r .number ≡ 0 → ⊥) → Tried window m r r es
@@ -103,12 +76,12 @@ module _ (window : Range) (m : Memory) where
           y .number
           ∙ then-last (s .number) refl
           ∙ ap (λ (n : ℕ). orElse n last) (x .number)
-          ∙ order (r .number) first last
+          ∙ or-else-order (r .number) first last
           ∙ ap (orElse (r .number)) (sym stages)
 
       state : t .number ≡ 0 → t .state ≡ afterAll (r .state) (es ++ fs)
       state z =
-          let e = zero-both (s .number) (firstFailing (rulesFrom window m (s .state) fs)) (sym (y .number) ∙ z) .0 in
+          let e = or-else-zero (s .number) (firstFailing (rulesFrom window m (s .state) fs)) .0 (sym (y .number) ∙ z) .0 in
           y .state z ∙ rw (x .state e, after-append (r .state) es fs)
 
   -- ONE ENTRY
@@ -134,7 +107,7 @@ module _ (window : Range) (m : Memory) where
   -- where an entry breaks no rule, it can be counted
   pub room : (k : Kind) (s : State) (l e : ℕ) → firstFailing (entryRules k window m s l e) ≡ 0 → Room k s l
   room k s l e z =
-      by k (all-mean Refused (Mapped 0 0) (entryRules k window m s l e) (entryMeanings k window m s l e) (entry-agree window m k s l e) .0 z .1 .1 .1 .1)
+      by k (all-mean (entryRules k window m s l e) (entryMeanings k window m s l e) (entry-agree window m k s l e) .0 z .1 .1 .1 .1)
     where
       by : (k : Kind) → AllSay (ownMeanings k m s l (addressOf e)) → Room k s l
       by Pointer h = h .0

@@ -1,9 +1,9 @@
 -- What the contracts of private functions say of one entry and of entries in turn.
-use Prim.Native.Nat.{ℕ, zero, suc, _≤_, _<_}
+use Prim.Native.Nat.{ℕ, _≤_, _<_}
 use mathlib.Core.Path.{_≡_}
 use mathlib.Core.List.{List}
 use Rattle.range.specs.declared.Range.{Range}
-use Rattle.rules.specs.Rules.{firstFailing}
+use Rattle.rules.specs.Rules.{firstFailing, orElse}
 use Rattle.pages.specs.declared.Kind.{Kind}
 use Rattle.pages.specs.declared.Kind.the-variants.{Pointer, Directory, Page}
 use Rattle.pages.specs.declared.Memory.{Memory}
@@ -17,11 +17,6 @@ abbrev pub Room : Kind → State → ℕ → Type 0
 Room Pointer s l = s .tables < mostTables
 Room Directory s l = s .tables < mostTables
 Room Page s l = s .count ≤ l
-
--- the number that was given before, or a later one where that is 0
-abbrev pub orElse : ℕ → ℕ → ℕ
-orElse zero later = later
-orElse (suc n) later = suc n
 
 -- after entries in turn: the number of the first rule that fails and, where none does, what was found
 pub record Tried (window : Range) (m : Memory) (before after : Run) (es : List Found) : Type 0 where

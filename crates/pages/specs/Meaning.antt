@@ -6,6 +6,7 @@ use mathlib.Core.Bool.{true, cond}
 use mathlib.Core.List.{List, [], _∷_, _++_}
 use Rattle.range.specs.declared.Range.{Range}
 use Rattle.range.specs.Range.{Has, pageSize}
+use Rattle.rules.specs.Rules.{firstFailing}
 use Rattle.rules.specs.Meaning.{Meaning, meaning, FirstBroken}
 use Rattle.pages.specs.declared.Memory.{Memory}
 use Rattle.pages.specs.declared.Kind.{Kind}
@@ -15,7 +16,7 @@ use Rattle.pages.specs.declared.levels.State.{State}
 use Rattle.pages.specs.Entry.{presentOf, addressOf}
 use Rattle.pages.specs.Memory.{pageOf, windowOf, forbidden, regions}
 use Rattle.pages.specs.Tables.{entryAt, levelSize, Found, found}
-use Rattle.pages.specs.Rules.{mostTables, startOf, afterEntry, walkOf}
+use Rattle.pages.specs.Rules.{mostTables, startOf, afterEntry, walkRules, walkOf, numberOf}
 
 -- RANGES
 
@@ -147,6 +148,10 @@ meaningsFrom window m s (e ∷ es) =
 abbrev pub walkMeanings : List ℕ → Memory → ℕ → List Meaning
 walkMeanings w m t =
     baseMeanings (windowOf w (m .window)) m t ++ meaningsFrom (windowOf w (m .window)) m (startOf t) (found w (m .window) t)
+
+-- the number of the answer is that of the first rule that fails
+abbrev pub NumberIsFirst : Type 0
+NumberIsFirst = (w : List ℕ) (m : Memory) (t : ℕ) → numberOf (walkOf w m t) ≡ firstFailing (walkRules w m t)
 
 -- pages are mapped exactly where the rules hold with them
 abbrev pub MappedExactly : Type 0

@@ -5,10 +5,10 @@ use mathlib.Core.Logic.{_↔_}
 use mathlib.Core.Bool.{Bool, true, false}
 use mathlib.Core.List.{List, _∷_, _++_}
 use native.Mathlib.Omega.{arith}
-use Rattle.rules.specs.Rules.{Rule, rule, firstFailing, Numbered, answerFor, answerBy}
-use Rattle.rules.specs.Meaning.{Meaning, AllSay, FirstBroken}
-use Rattle.rules.proofs.Rules.{all-exactly, passed, stopped}
-use Rattle.rules.proofs.Meaning.{Agree, numbered, all-say, broken-number, broken-exactly}
+use Rattle.rules.specs.Rules.{Rule, rule, firstFailing, answerFor, answerBy}
+use Rattle.rules.specs.Meaning.{Meaning, FirstBroken}
+use Rattle.rules.proofs.Rules.{Numbered, all-exactly, passed, stopped}
+use Rattle.rules.proofs.Meaning.{Agree, in-turn, broken-number, broken-exactly}
 
 module _ {A : Type 0} (refused : ℕ → A) (a : A) where
   -- BY THE NUMBER
@@ -74,21 +74,11 @@ module _ {A : Type 0} (refused : ℕ → A) (a : A) where
   number-exactly never same (suc k) n = (λ e. let h = same (suc k) n e in (omega arith, h), λ h. ap refused (h .1))
 
   module _ (rs : List Rule) (ps : List Meaning) (agree : Agree rs ps) where
-    pub all-mean : (firstFailing rs ≡ 0) ↔ AllSay ps
-    all-mean =
-        let hold = all-exactly rs (numbered rs ps agree) in
-        let say = all-say rs ps agree in
-        (λ e. say .0 (hold .0 e), λ h. hold .1 (say .1 h))
-
-    pub value-means : (x : A) → ((n : ℕ) → refused n ≡ x → ⊥) → (answerBy refused a rs ≡ x) ↔ (AllSay ps × (a ≡ x))
-    value-means x never =
-        let value = value-exactly x never (firstFailing rs) in
-        (λ e. let h = value .0 e in (all-mean .0 (h .0), h .1), λ h. value .1 (all-mean .1 (h .0), h .1))
-
     pub number-means : ((n : ℕ) → a ≡ refused n → ⊥) → ((m n : ℕ) → refused m ≡ refused n → m ≡ n) → (n : ℕ)
         → (answerBy refused a rs ≡ refused n) ↔ FirstBroken ps n
     number-means never same n =
+        let turn = in-turn rs ps agree in
         let number = number-exactly never same (firstFailing rs) n in (
-          λ e. let h = number .0 e in broken-exactly rs ps agree n (h .0) .0 (h .1),
-          λ b. let z = broken-number rs ps agree n b in number .1 (z, broken-exactly rs ps agree n z .1 b),
+          λ e. let h = number .0 e in broken-exactly rs ps turn n (h .0) .0 (h .1),
+          λ b. let z = broken-number rs ps turn n b in number .1 (z, broken-exactly rs ps turn n z .1 b),
         )

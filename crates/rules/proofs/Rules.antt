@@ -5,7 +5,11 @@ use mathlib.Core.Logic.{_↔_}
 use mathlib.Core.Bool.{Bool, true, false, cond}
 use mathlib.Core.List.{List, [], _∷_, _++_, append-nil}
 use native.Mathlib.Omega.{arith}
-use Rattle.rules.specs.Rules.{Rule, firstFailing, Every, AllHold, Numbered, FirstFails}
+use Rattle.rules.specs.Rules.{Rule, firstFailing, orElse, Every, AllHold, FirstFails}
+
+-- no rule has the number 0, which says that all hold
+abbrev pub Numbered : List Rule → Type 0
+Numbered rs = Every (λ (r : Rule). 0 < r .number) rs
 
 -- rules that hold are passed over
 pub passed : (rs later : List Rule) → AllHold rs → firstFailing (rs ++ later) ≡ firstFailing later
@@ -72,17 +76,40 @@ pub every-map : (P Q : Rule → Type 0) → ((r : Rule) → P r → Q r) → (rs
 every-map P Q f [] h = tt
 every-map P Q f (r ∷ rs) h = (f r (h .0), every-map P Q f rs (h .1))
 
--- the number is 0 exactly where it is 0 for each of the two lists; or where one rule holds and the number of the later ones is 0
-pub joined-exactly : (rs later : List Rule) → Numbered rs → (firstFailing (rs ++ later) ≡ 0) ↔ ((firstFailing rs ≡ 0) × (firstFailing later ≡ 0))
-joined-exactly rs later m = (
-  there (firstFailing rs) refl,
-  λ h. passed rs later (all-exactly rs m .0 (h .0)) ∙ h .1,
-)
-  where
-    there : (n : ℕ) → firstFailing rs ≡ n → firstFailing (rs ++ later) ≡ 0 → (firstFailing rs ≡ 0) × (firstFailing later ≡ 0)
-    there zero e z = (e, sym (passed rs later (all-exactly rs m .0 e)) ∙ z)
-    there (suc n) e z = absurd (let s = stopped rs later (suc n) (omega arith) e in omega arith)
+pub every-split : (P : Rule → Type 0) (rs later : List Rule) → Every P (rs ++ later) → Every P rs × Every P later
+every-split P [] later h = (tt, h)
+every-split P (r ∷ rs) later h = let s = every-split P rs later (h .1) in ((h .0, s .0), s .1)
 
+pub all-append : (rs later : List Rule) → AllHold (rs ++ later) ↔ (AllHold rs × AllHold later)
+all-append rs later = (every-split _ rs later, λ h. every-append _ rs later (h .0) (h .1))
+
+-- the number of two lists in turn
+pub or-else-number : (n later : ℕ) → 0 < n → orElse n later ≡ n
+or-else-number zero later z = absurd (omega arith)
+or-else-number (suc n) later z = refl
+
+pub or-else-none : (n : ℕ) → n ≡ orElse n 0
+or-else-none zero = refl
+or-else-none (suc n) = refl
+
+pub or-else-order : (n a b : ℕ) → orElse (orElse n a) b ≡ orElse n (orElse a b)
+or-else-order zero a b = refl
+or-else-order (suc n) a b = refl
+
+pub or-else-zero : (n later : ℕ) → (orElse n later ≡ 0) ↔ ((n ≡ 0) × (later ≡ 0))
+or-else-zero zero later = (λ e. (refl, e), λ h. h .1)
+or-else-zero (suc n) later = (λ e. absurd (omega arith), λ h. absurd (omega (arith, h .0)))
+
+pub first-append : (rs later : List Rule) → Numbered rs → firstFailing (rs ++ later) ≡ orElse (firstFailing rs) (firstFailing later)
+first-append [] later z = refl
+first-append (r ∷ rs) later z = by (r .holds) (first-append rs later (z .1))
+  where
+    by : (b : Bool) → firstFailing (rs ++ later) ≡ orElse (firstFailing rs) (firstFailing later)
+        → cond b (firstFailing (rs ++ later)) (r .number) ≡ orElse (cond b (firstFailing rs) (r .number)) (firstFailing later)
+    by true e = e
+    by false e = sym (or-else-number (r .number) (firstFailing later) (z .0))
+
+-- one rule in front: the number is 0 exactly where it holds and the number of the later ones is 0
 pub rule-exactly : (n : ℕ) (b : Bool) (later : ℕ) → 0 < n → (cond b later n ≡ 0) ↔ ((b ≡ true) × (later ≡ 0))
 rule-exactly n b later z = (holds-first b later n z, λ h. rw (h .0) (h .1))
 

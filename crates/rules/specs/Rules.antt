@@ -1,5 +1,5 @@
 -- Rules in the order they are tried: the first that fails gives the number.
-use Prim.Native.Nat.{ℕ, zero, suc, _<_}
+use Prim.Native.Nat.{ℕ, zero, suc}
 use mathlib.Core.Path.{_≡_}
 use mathlib.Core.Bool.{Bool, true, false, cond, _&&_}
 use mathlib.Core.List.{List, [], _∷_, _++_}
@@ -22,6 +22,11 @@ abbrev pub firstFailing : List Rule → ℕ
 firstFailing [] = 0
 firstFailing (r ∷ rs) = cond (r .holds) (firstFailing rs) (r .number)
 
+-- the number of some rules, or where it is 0 that of later ones
+abbrev pub orElse : ℕ → ℕ → ℕ
+orElse zero later = later
+orElse (suc n) later = suc n
+
 -- something is so of every rule
 abbrev pub Every : (Rule → Type 0) → List Rule → Type 0
 Every P [] = Unit
@@ -29,10 +34,6 @@ Every P (r ∷ rs) = P r × Every P rs
 
 abbrev pub AllHold : List Rule → Type 0
 AllHold rs = Every (λ (r : Rule). r .holds ≡ true) rs
-
--- no rule has the number 0, which says that all hold
-abbrev pub Numbered : List Rule → Type 0
-Numbered rs = Every (λ (r : Rule). 0 < r .number) rs
 
 -- a rule with the number n fails, and all rules before it hold
 pub record FirstFails (rs : List Rule) (n : ℕ) : Type 0 where

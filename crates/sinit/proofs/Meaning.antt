@@ -10,13 +10,13 @@ use lib.Dec.{lit<}
 use Rattle.rules.specs.Rules.{Rule, firstFailing}
 use Rattle.rules.specs.Meaning.{Meaning, AllSay}
 use Rattle.rules.proofs.Tests.{_&_}
-use Rattle.rules.proofs.Meaning.{Agree, agrees}
-use Rattle.rules.proofs.Answers.{number-of, value-exactly, number-exactly, all-mean, number-means}
+use Rattle.rules.proofs.Meaning.{Agree, agrees, all-mean}
+use Rattle.rules.proofs.Answers.{number-of, value-exactly, number-exactly, number-means}
 use Rattle.sinit.specs.declared.Chipset.{Chipset}
 use Rattle.sinit.specs.declared.ModuleData.{ModuleData}
 use Rattle.sinit.specs.declared.ModuleAnswer.the-variants.{Module, Refused}
 use Rattle.sinit.specs.Rules.{supported, rules, valuesOf, moduleOf, numberOf}
-use Rattle.sinit.specs.Meaning.{Supported, ModuleHolds, meanings, PermittedExactly, RefusedExactly}
+use Rattle.sinit.specs.Meaning.{Supported, ModuleHolds, meanings, NumberIsFirst, PermittedExactly, RefusedExactly}
 use Rattle.sinit.proofs.Conditions.{place-exactly, header-exactly, gdt-exactly, entry-exactly, selector-exactly, table-exactly, list-exactly, listed-exactly}
 
 different : (values : ModuleData) (n : ℕ) → Refused n ≡ Module values → ⊥
@@ -30,7 +30,7 @@ unfolding supported
 supported-exactly m osSinitData = (leb-true _ _, le-leb _ _)
 
 module _ (m : List ℕ) (base capacity : ℕ) (c : Chipset) (osSinitData : ℕ) where
-  agree : Agree (rules m base capacity c osSinitData) (meanings m base capacity c osSinitData)
+  pub agree : Agree (rules m base capacity c osSinitData) (meanings m base capacity c osSinitData)
   agree =
       agrees (lit< tt) (place-exactly m base capacity)
       & agrees (lit< tt) (header-exactly m)
@@ -43,7 +43,7 @@ module _ (m : List ℕ) (base capacity : ℕ) (c : Chipset) (osSinitData : ℕ) 
       & agrees (lit< tt) (supported-exactly m osSinitData)
       & tt
 
-  holds-exactly : AllSay (meanings m base capacity c osSinitData) ↔ ModuleHolds m base capacity c osSinitData
+  pub holds-exactly : AllSay (meanings m base capacity c osSinitData) ↔ ModuleHolds m base capacity c osSinitData
   holds-exactly = (
     λ h. record {
       place = h .0;
@@ -68,13 +68,8 @@ module _ (m : List ℕ) (base capacity : ℕ) (c : Chipset) (osSinitData : ℕ) 
   -- no rule fails exactly where every rule holds
   pub all-hold : (firstFailing rs ≡ 0) ↔ ModuleHolds m base capacity c osSinitData
   all-hold =
-      let say = all-mean Refused (Module (valuesOf m)) rs ps agree in
+      let say = all-mean rs ps agree in
       (λ e. holds-exactly .0 (say .0 e), λ h. say .1 (holds-exactly .1 h))
-
-  -- the number of the answer is that of the first rule that fails
-  pub number-is-first : numberOf (moduleOf m base capacity c osSinitData) ≡ firstFailing rs
-  unfolding moduleOf
-  number-is-first = number-of Refused (Module (valuesOf m)) numberOf refl (λ n. refl) (firstFailing rs)
 
   -- where the values are answered, no rule fails, and they are those of the module; a number is that of the first rule that fails
   pub values-exactly : (values : ModuleData) → (moduleOf m base capacity c osSinitData ≡ Module values) ↔ ((firstFailing rs ≡ 0) × (values ≡ valuesOf m))
@@ -86,6 +81,11 @@ module _ (m : List ℕ) (base capacity : ℕ) (c : Chipset) (osSinitData : ℕ) 
   pub refusal-exactly : (n : ℕ) → (moduleOf m base capacity c osSinitData ≡ Refused n) ↔ ((0 < n) × (firstFailing rs ≡ n))
   unfolding moduleOf
   refusal-exactly n = number-exactly Refused (Module (valuesOf m)) (λ k e. different _ k (sym e)) same (firstFailing rs) n
+
+pub number-is-first : NumberIsFirst
+unfolding moduleOf
+number-is-first m base capacity c osSinitData =
+    number-of Refused (Module (valuesOf m)) numberOf refl (λ n. refl) (firstFailing (rs m base capacity c osSinitData))
 
 pub permitted-exactly : PermittedExactly
 permitted-exactly m base capacity c osSinitData values =

@@ -6,16 +6,17 @@ use mathlib.Core.List.{List, [], _∷_}
 use lib.Bits.{bitAnd}
 use lib.ListN.{length, take, drop}
 use Rattle.range.specs.Range.{pageSize}
+use Rattle.rules.specs.Rules.{firstFailing}
 use Rattle.rules.specs.Meaning.{Meaning, meaning, FirstBroken}
 use Rattle.sinit.specs.declared.Chipset.{Chipset}
 use Rattle.sinit.specs.declared.ModuleData.{ModuleData}
 use Rattle.sinit.specs.declared.ModuleAnswer.the-variants.{Module, Refused}
-use Rattle.sinit.specs.Module.{lengthUnit, highestEnd, editionOf}
+use Rattle.sinit.specs.Module.{lengthUnit, highestModuleEnd, editionOf}
 use Rattle.sinit.specs.Module.{type, chipsetModule, headerLen, version, vendor, intel, size, keySize}
 use Rattle.sinit.specs.Module.{E, gdtLimit, gdtLimitEnd, gdtBasePtr, entryPoint, segSel, descriptorSize, secondEnd}
 use Rattle.sinit.specs.Module.{tableSize, uuid, tableType, sinitTable, tableLength, chipsetList, osSinitDataVer}
 use Rattle.sinit.specs.Module.{countSize, count, mostEntries, entrySize, entryAt, entryFlags, entryVendor, entryDevice, entryRevision}
-use Rattle.sinit.specs.Rules.{valuesOf, moduleOf}
+use Rattle.sinit.specs.Rules.{rules, valuesOf, moduleOf, numberOf}
 
 -- 6
 pub record Place (m : List ℕ) (base capacity : ℕ) : Type 0 where
@@ -23,7 +24,7 @@ pub record Place (m : List ℕ) (base capacity : ℕ) : Type 0 where
   pub inUnits : length m % lengthUnit ≡ 0
   pub least : editionOf m .«least_length» ≤ length m
   pub most : length m ≤ capacity
-  pub end : base + length m ≤ highestEnd
+  pub end : base + length m ≤ highestModuleEnd
 
 -- 7
 pub record Header (m : List ℕ) : Type 0 where
@@ -104,6 +105,12 @@ meanings m base capacity c osSinitData =
     ∷ meaning 10 (Listed m c)
     ∷ meaning 11 (Supported m osSinitData)
     ∷ []
+
+-- the number of the answer is that of the first rule that fails
+abbrev pub NumberIsFirst : Type 0
+NumberIsFirst =
+    (m : List ℕ) (base capacity : ℕ) (c : Chipset) (osSinitData : ℕ)
+    → numberOf (moduleOf m base capacity c osSinitData) ≡ firstFailing (rules m base capacity c osSinitData)
 
 -- the module's values are answered exactly where every rule holds
 abbrev pub PermittedExactly : Type 0

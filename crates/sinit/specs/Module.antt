@@ -11,8 +11,8 @@ use Rattle.sinit.specs.declared.header.Edition.{Edition}
 abbrev pub lengthUnit : ℕ
 lengthUnit = 64
 
-abbrev pub highestEnd : ℕ
-highestEnd = 2 ^ 32 - 1
+abbrev pub highestModuleEnd : ℕ
+highestModuleEnd = 2 ^ 32 - 1
 
 -- THE HEADER. "type 0 (16) = 2; HeaderLen 4 (32) = 161; version 8 (32) = 0; flags 14 (16); vendor 16 (32) = 0x8086; size 24 (32), times 4 the length;
 -- GDTLimit 40, GDTBasePtr 44, SegSel 48, EntryPoint 52; KeySize 120 = 64; ScratchSize 124 (all 32-bit)."

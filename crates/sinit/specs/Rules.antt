@@ -12,7 +12,7 @@ use Rattle.sinit.specs.declared.Chipset.{Chipset}
 use Rattle.sinit.specs.declared.ModuleData.{ModuleData}
 use Rattle.sinit.specs.declared.ModuleAnswer.{ModuleAnswer}
 use Rattle.sinit.specs.declared.ModuleAnswer.the-variants.{Module, Refused}
-use Rattle.sinit.specs.Module.{lengthUnit, highestEnd, editionOf}
+use Rattle.sinit.specs.Module.{lengthUnit, highestModuleEnd, editionOf}
 use Rattle.sinit.specs.Module.{type, chipsetModule, headerLen, version, flags, vendor, intel, size, keySize}
 use Rattle.sinit.specs.Module.{E, gdtLimit, gdtLimitEnd, gdtBasePtr, entryPoint, segSel, descriptorSize, secondEnd}
 use Rattle.sinit.specs.Module.{tableSize, uuid, tableType, sinitTable, tableLength, chipsetList, osSinitDataVer, minMleHeaderVer, acmVersion}
@@ -38,7 +38,7 @@ place m base capacity =
     ∷ multiple lengthUnit (length m)
     ∷ leb (editionOf m .«least_length») (length m)
     ∷ leb (length m) capacity
-    ∷ endsBy (record { base = base; size = length m }) highestEnd
+    ∷ endsBy (record { base = base; size = length m }) highestModuleEnd
     ∷ []
 
 -- 7. "Header: type 0 (16) = 2; HeaderLen 4 (32) = 161; version 8 (32) = 0; .. vendor 16 (32) = 0x8086; size 24 (32), times 4 the length; .. KeySize 120 = 64"

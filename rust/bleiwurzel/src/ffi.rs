@@ -36,7 +36,9 @@ extern "C" {
     ) -> u32;
     fn bleiwurzel_policy(file: *const u8, file_length: usize, lists: *mut [u64; 1]) -> u32;
     fn bleiwurzel_policy_list(file: *const u8, file_length: usize, i: usize, fields: *mut [u64; 9]) -> u32;
+    fn bleiwurzel_policy_list_at(file: *const u8, file_length: usize, at: usize, fields: *mut [u64; 9]) -> u32;
     fn bleiwurzel_policy_element(file: *const u8, file_length: usize, i: usize, j: usize, fields: *mut [u64; 8]) -> u32;
+    fn bleiwurzel_policy_element_at(file: *const u8, file_length: usize, at: usize, fields: *mut [u64; 8]) -> u32;
     fn bleiwurzel_sha256(message: *const u8, message_length: usize, digest: *mut [u8; 32]);
 }
 
@@ -99,11 +101,27 @@ pub fn policy_list(file: &[u8], i: usize) -> (u32, [u64; 9]) {
     (kind, fields)
 }
 
+/// The kind of the list at an offset, and its fields.
+pub fn policy_list_at(file: &[u8], at: usize) -> (u32, [u64; 9]) {
+    let mut fields = [0u64; 9];
+    // SAFETY: as in `policy`.
+    let kind = unsafe { bleiwurzel_policy_list_at(file.as_ptr(), file.len(), at, &mut fields) };
+    (kind, fields)
+}
+
 /// The kind of element j of list i, and its fields.
 pub fn policy_element(file: &[u8], i: usize, j: usize) -> (u32, [u64; 8]) {
     let mut fields = [0u64; 8];
     // SAFETY: as in `policy`.
     let kind = unsafe { bleiwurzel_policy_element(file.as_ptr(), file.len(), i, j, &mut fields) };
+    (kind, fields)
+}
+
+/// The kind of the element at an offset, and its fields.
+pub fn policy_element_at(file: &[u8], at: usize) -> (u32, [u64; 8]) {
+    let mut fields = [0u64; 8];
+    // SAFETY: as in `policy`.
+    let kind = unsafe { bleiwurzel_policy_element_at(file.as_ptr(), file.len(), at, &mut fields) };
     (kind, fields)
 }
 

@@ -53,7 +53,7 @@ const NUMBERS: &[Number] = &[
     Number { value: MOST_CHIPSETS, rattle: &["sinit::MOST_ENTRIES", "sinit::mostEntries"], macros: &[], said: nothing },
     Number {
         value: MOST_PAGES as u64,
-        rattle: &["MOST_PAGES", "mostPages", "PLACES"],
+        rattle: &["MOST_PAGES", "mostPages", "PLACES", "lentPlaces"],
         macros: &["BLEIWURZEL_MOST_PAGES"],
         said: |n| vec![format!("or over {n} pages")],
     },

@@ -1,4 +1,4 @@
--- `check` meets its contract: the verdict of all stages, shown, and its pages written.
+-- `check` meets its contract: the outcome of all stages, shown, and its pages written.
 use mathlib.Core.Path.{_∙_}
 use Rattle.launch.proofs.Whole.{answer-is, places-are}
 use borrow.Author.Needs.{needs}

@@ -16,7 +16,7 @@ shown-requires c κs = search needs
 
 returns : tie.Need-returns
 returns c =
-    no-room _ _ _ _ (c .before .shown .ensures) _ _ (c .before .before .before .first-line .ensures .0) (c .before .before .line-length .ensures) (omega arith)
+    no-room _ _ _ _ (c .before .shown .ensures .0) (c .before .shown .ensures .1) _ _ (c .before .before .before .first-line .ensures .0) (c .before .before .line-length .ensures) (omega arith)
 
 sub-if2 : tie.Need-sub-if2
 sub-if2 c = search needs
@@ -24,7 +24,7 @@ sub-if2 c = search needs
 returns-2 : tie.Need-returns-2
 returns-2 c =
     let at-shown = c .before .before in
-    no-room _ _ _ _ (at-shown .shown .ensures) _ _ (at-shown .before .before .first-line .ensures .0) (at-shown .before .line-length .ensures) (omega arith)
+    no-room _ _ _ _ (at-shown .shown .ensures .0) (at-shown .shown .ensures .1) _ _ (at-shown .before .before .first-line .ensures .0) (at-shown .before .line-length .ensures) (omega arith)
 
 put-line-requires : tie.Need-put-line-requires
 put-line-requires c κs = search needs
@@ -45,7 +45,7 @@ returns-3 : tie.Need-returns-3
 returns-3 c =
     let at-line = c .before .before .before .before .before .before in
     let at-shown = at-line .before .before .before .before in
-    put-both _ _ _ _ (at-shown .shown .ensures) _ _ (at-shown .before .before .first-line .ensures .0) (at-shown .before .line-length .ensures) (omega arith) _ _
+    put-both _ _ _ _ (at-shown .shown .ensures .0) (at-shown .shown .ensures .1) _ _ (at-shown .before .before .first-line .ensures .0) (at-shown .before .line-length .ensures) (omega arith) _ _
     (at-line .put-line .ensures) (c .before .before .put-pages .ensures)
 
 pub output-spec : {M : Type 1} → statement M

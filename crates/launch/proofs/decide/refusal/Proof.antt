@@ -1,8 +1,4 @@
 -- `refusal` meets its contract: no pages, and the answer of a refusal.
-use mathlib.Core.Path.{_≡_}
-use Rattle.launch.specs.declared.Answer.{Answer}
-use Rattle.launch.specs.declared.Verdict.{Verdict}
-use Rattle.launch.specs.Inner.{noImage}
 use borrow.Author.Needs.{needs}
 use Rattle.launch.proofs.decide.refusal.Statement.{statement}
 use Rattle.launch.proofs.decide.refusal.Tie as tie

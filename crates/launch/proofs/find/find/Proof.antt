@@ -1,5 +1,5 @@
 -- `find` meets its contract: rules 1 to 11, and what is left.
-use mathlib.Core.Path.{_∙_, sym, ap}
+use mathlib.Core.Path.{_∙_, sym}
 use borrow.Author.Tests.{not-true, not-false}
 use Rattle.launch.proofs.Finding.{platform-refuses, heap-refuses, module-refuses, module-passes}
 use borrow.Author.Needs.{needs}

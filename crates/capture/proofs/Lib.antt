@@ -1,5 +1,2 @@
--- The laws of captures and of the text of the answer.
+-- The laws of captures.
 pub mod Conditions
-pub mod Lines
-pub mod Written
-pub mod Room

@@ -1,3 +1,2 @@
 -- What the contracts of the crate say.
 pub mod Capture
-pub mod Text

@@ -1,10 +1,7 @@
 // Capture files: all that the check is handed over, in one string, and the answer for it.
-mod text;
-
 use field::number_or_zero;
 use launch::Answer;
 use launch::Platform;
-pub use text::output;
 ghost use mathlib.Core.Path.{_≡_};
 ghost use Prim.Native.Nat.{_<_, _≤_, _^_};
 ghost use lib.ListN.{length};
@@ -19,13 +16,8 @@ const VERSION: u64 = 1;
 
 const LARGEST: usize = 65536;
 
-// What a program lends: a buffer for the input, a byte longer than a capture may be, so that a longer input is told from one; the places for pages;
-// and room for the text of the answer, the first line and a line for each page.
+// What a program lends for the input: a byte more than a capture may have, so that a longer input is told from one.
 pub const INPUT: usize = LARGEST + 1;
-
-pub const PLACES: usize = 4096;
-
-pub const OUTPUT: usize = 48 + 17 * PLACES;
 
 // The offset of the window.
 const WINDOW: usize = 75;
@@ -91,7 +83,7 @@ fn offsets_in(s: &[u8]) -> Offsets
 }
 
 // Whether a string is a capture.
-pub fn holds(s: &[u8]) -> bool
+fn holds(s: &[u8]) -> bool
     ensures { λ r. ⌜ r ≡ all (captureTests (now (s .entry))) ⌝ }
 {
     if s.len() < WINDOW {

@@ -4,10 +4,10 @@ use libc::STDOUT_FILENO;
 
 fn main() {
     let mut buffer = [0u8; capture::INPUT];
-    let mut pages = [0u64; capture::PLACES];
-    let mut text = [0u8; capture::OUTPUT];
+    let mut pages = [0u64; answer_text::PLACES];
+    let mut text = [0u8; answer_text::OUTPUT];
     let n = capture_io::read_whole(STDIN_FILENO, &mut buffer);
     let a = capture::check(&buffer[..n], &mut pages);
-    let len = capture::output(a, &pages, &mut text);
+    let len = answer_text::output(a, &pages, &mut text);
     io::write_all(STDOUT_FILENO, &text[..len]);
 }

@@ -1,18 +1,43 @@
 // Shows what the reader answers of a policy file from standard input, or of each file that the arguments name, where `-` is standard input.
 mod show;
 
-// The policy file behind a descriptor.
-fn from(fd: i32) {
-    let mut buffer = [0u8; 65537];
+// One byte more than the longest policy file.
+const SPACE: usize = policy_reader::LARGEST_FILE + 1;
+
+// Says on standard error that a file could not be read.
+fn unread(name: &[u8], got: isize) {
+    if got < 0 {
+        os::fail(name);
+        return;
+    }
+    io::write_all(2, name);
+    io::write_all(2, b": not read to its end\n");
+}
+
+// The policy file behind a descriptor. A file that was not read to its end is not shown; one that fills the buffer is too long, whatever follows.
+fn from(fd: i32, name: &[u8]) {
+    let mut buffer = [0u8; SPACE];
     let n = io::read_full(fd, &mut buffer);
+    if n < SPACE {
+        let mut next = [0u8; 1];
+        let got = libc::read(fd, &mut next);
+        if got != 0 {
+            unread(name, got);
+            return;
+        }
+    }
     show::file(&buffer[..n]);
+}
+
+fn input() {
+    from(0, b"standard input");
 }
 
 // The policy file of a name.
 fn named(path: &[u8]) {
     if path.len() == 1 {
         if path[0] == b'-' {
-            from(0);
+            input();
             return;
         }
     }
@@ -21,7 +46,7 @@ fn named(path: &[u8]) {
         os::fail(path);
         return;
     }
-    from(fd);
+    from(fd, path);
     libc::close(fd);
 }
 
@@ -41,7 +66,7 @@ fn argument(i: usize) -> bool {
 
 fn main() {
     if !argument(1) {
-        from(0);
+        input();
         return;
     }
     let mut i: usize = 2;

@@ -11,7 +11,7 @@ ghost use Rattle.sinit.specs.Rules.{place, header, gdt, entry, selector}
 
 const LENGTH_UNIT: u64 = 64;
 
-const HIGHEST_END: u64 = 0xFFFF_FFFF;
+const HIGHEST_MODULE_END: u64 = 0xFFFF_FFFF;
 
 const CHIPSET_MODULE: u64 = 2;
 
@@ -97,7 +97,7 @@ pub(crate) fn place_holds(acm: &[u8], base: u64, capacity: u64) -> bool
     if capacity < length {
         return false;
     }
-    range::ends_by(Range { base, size: length }, HIGHEST_END)
+    range::ends_by(Range { base, size: length }, HIGHEST_MODULE_END)
 }
 
 // Rule 7: the numbers of the header.

@@ -3,7 +3,7 @@
 //! The mark `LPC`, 16-bit version 1, the platform in the order of [`Platform`], four 32-bit lengths (window, heap, module, record),
 //! then the four parts, and nothing after.
 
-use crate::{Parts, Platform};
+use crate::{text, Parts, Platform};
 
 pub const MARK: &[u8; 3] = b"LPC";
 pub const VERSION: u16 = 1;
@@ -47,12 +47,11 @@ fn platform(head: &[u8]) -> Platform {
 
 /// The parts and the platform of a capture.
 pub fn split(capture: &[u8]) -> Result<(Parts<'_>, Platform), Fault> {
+    let found = text::bytes(capture.len() as u64);
     if capture.len() > MOST {
-        let found = format!("{} bytes or more", capture.len());
         return Err(fault("the whole file", format!("at most {MOST} bytes"), found));
     }
     if capture.len() < HEAD {
-        let found = format!("{} bytes", capture.len());
         return Err(fault("the whole file", format!("at least {HEAD} bytes, as many as stand before the parts"), found));
     }
     if &capture[..3] != MARK {

@@ -6,11 +6,15 @@
 mod grammar;
 mod heap;
 mod image;
+mod length;
 mod lists;
 mod module;
 mod walk;
 
+use crate::text::{bytes, counted, digits, spaced};
 use crate::{capture, Parts, Platform, HIGHEST_END, MOST_HEAP, MOST_PAGES, MOST_WINDOW, PAGE_SIZE};
+pub use length::{Length, Lengths};
+pub use module::{only_length, HEADER_LENGTH};
 
 /// The place that a refusal speaks of.
 #[derive(Clone, Debug, PartialEq, Eq)]
@@ -24,11 +28,24 @@ pub struct Finding {
     pub notes: Vec<String>,
 }
 
+impl Finding {
+    /// The same of a string that was handed over up to a limit only, where what was found is its length.
+    pub fn or_more(mut self) -> Self {
+        self.found.push_str(length::OR_MORE);
+        self
+    }
+}
+
 type Step<T> = Result<T, Finding>;
 
 /// The place of the rule with this number, where there is one.
 pub fn find(number: u32, parts: &Parts, platform: &Platform, places: usize) -> Option<Finding> {
-    first(parts, platform, places).filter(|finding| finding.number == number)
+    find_read(number, parts, &Lengths::of(parts), platform, places)
+}
+
+/// The same for parts that were read up to a limit.
+pub fn find_read(number: u32, parts: &Parts, lengths: &Lengths, platform: &Platform, places: usize) -> Option<Finding> {
+    all(parts, lengths, platform, places).err().filter(|finding| finding.number == number)
 }
 
 /// The same for a capture.
@@ -43,7 +60,7 @@ pub fn find_in_policy(number: u32, file: &[u8]) -> Option<Finding> {
 
 /// The first rule that does not hold, as this module sees it.
 pub fn first(parts: &Parts, platform: &Platform, places: usize) -> Option<Finding> {
-    all(parts, platform, places).err()
+    all(parts, &Lengths::of(parts), platform, places).err()
 }
 
 /// The same for a capture.
@@ -56,17 +73,17 @@ pub fn first_in_capture(bytes: &[u8], places: usize) -> Option<Finding> {
     }
 }
 
-fn all(parts: &Parts, platform: &Platform, places: usize) -> Step<()> {
-    limits(parts, platform)?;
+fn all(parts: &Parts, lengths: &Lengths, platform: &Platform, places: usize) -> Step<()> {
+    limits(lengths, platform)?;
     let asked = heap::read(parts.heap)?;
-    let module = module::read(parts.sinit, platform)?;
+    let module = module::read(parts.sinit, &lengths.sinit, platform)?;
     module::knows_version(&module, &asked)?;
     let count = page_count(&asked, places)?;
     let memory = walk::Memory::new(parts, platform, &asked);
     let mapped = walk::walk(parts.window, &memory, asked.tables)?;
     image::counted(&mapped, count)?;
     image::header(parts.window, platform.window_base, &asked, &module, &mapped)?;
-    let record = lists::record(parts.record)?;
+    let record = lists::record(parts.record, &lengths.record)?;
     lists::production(&module, &record)?;
     lists::module_version(&module, &record)?;
     if record.any {
@@ -107,27 +124,24 @@ fn bytes_of(bytes: &[u8], at: u64, length: usize) -> &[u8] {
     usize::try_from(at).ok().and_then(|at| bytes.get(at..at.checked_add(length)?)).unwrap_or(&[])
 }
 
-fn spaced(bytes: &[u8]) -> String {
-    bytes.iter().map(|byte| format!("{byte:02x}")).collect::<Vec<_>>().join(" ")
+/// What is expected of an address that begins a page.
+fn on_a_page() -> String {
+    format!("a multiple of {PAGE_SIZE} ({PAGE_SIZE:#x})")
 }
 
-fn hex(bytes: &[u8]) -> String {
-    bytes.iter().map(|byte| format!("{byte:02x}")).collect()
-}
-
-fn limits(parts: &Parts, platform: &Platform) -> Step<()> {
+fn limits(lengths: &Lengths, platform: &Platform) -> Step<()> {
     let base = platform.window_base;
-    need(base % PAGE_SIZE == 0, 1, "window base of the platform", "a multiple of 4096 (0x1000)", format!("{base:#x}"))?;
-    most("window", parts.window.len(), MOST_WINDOW)?;
-    most("heap", parts.heap.len(), MOST_HEAP)?;
-    ends("window", base, parts.window.len() as u64, "window base", "its length")?;
-    ends("heap", platform.heap_base, parts.heap.len() as u64, "heap base", "its length")?;
+    need(base % PAGE_SIZE == 0, 1, "window base of the platform", on_a_page(), format!("{base:#x}"))?;
+    most("window", &lengths.window, MOST_WINDOW)?;
+    most("heap", &lengths.heap, MOST_HEAP)?;
+    ends("window", base, lengths.window.bytes, "window base", "its length")?;
+    ends("heap", platform.heap_base, lengths.heap.bytes, "heap base", "its length")?;
     ends("DPR", platform.dpr_base, platform.dpr_size, "DPR base", "DPR size")
 }
 
-fn most(name: &str, length: usize, limit: usize) -> Step<()> {
-    let more = if length == limit + 1 { " or more" } else { "" };
-    need(length <= limit, 1, format!("length of the {name}"), format!("at most {limit} bytes"), format!("{length} bytes{more}"))
+fn most(name: &str, length: &Length, limit: usize) -> Step<()> {
+    let expected = format!("at most {limit} bytes");
+    need(length.bytes <= limit as u64, 1, format!("length of the {name}"), expected, length.to_string())
 }
 
 fn ends(name: &str, base: u64, size: u64, base_name: &str, size_name: &str) -> Step<()> {
@@ -146,8 +160,8 @@ fn page_count(asked: &heap::OsSinitData, places: usize) -> Step<u64> {
     let size = asked.mle_size;
     let place = asked.place("MLE Size", 16);
     let found = format!("{size} ({size:#x})");
-    need(size != 0, 12, place.as_str(), "at least 4096, one page", found.as_str())?;
-    need(size % PAGE_SIZE == 0, 12, place.as_str(), "a multiple of 4096 (0x1000)", found.as_str())?;
+    need(size != 0, 12, place.as_str(), format!("at least {PAGE_SIZE}, one page"), found.as_str())?;
+    need(size % PAGE_SIZE == 0, 12, place.as_str(), on_a_page(), found.as_str())?;
     let count = size / PAGE_SIZE;
     let expected = format!("at most {MOST_PAGES} pages, {} bytes", MOST_PAGES as u64 * PAGE_SIZE);
     need(count <= MOST_PAGES as u64, 12, place, expected, format!("{found}, {count} pages"))?;
@@ -155,8 +169,8 @@ fn page_count(asked: &heap::OsSinitData, places: usize) -> Step<u64> {
         count <= places as u64,
         13,
         "the page list of the calling program",
-        format!("at least {count} places, as many as MLE Size has pages"),
-        format!("{places} places"),
+        format!("at least {}, as many as MLE Size has pages", counted(count, "place")),
+        counted(places as u64, "place"),
     )?;
     Ok(count)
 }

@@ -25,6 +25,7 @@ pub mod finding;
 mod limits;
 pub mod policy;
 pub mod refusals;
+pub mod text;
 
 pub use limits::*;
 use std::fmt;

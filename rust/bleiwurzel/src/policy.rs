@@ -1,5 +1,5 @@
-//! The reader of policy files: the number of a string, and any list or element of it by number. Offsets count from the file's
-//! first byte.
+//! The reader of policy files: the number of a string, any list or element of it by number or at an offset, and all of them in turn.
+//! Offsets count from the file's first byte.
 
 use crate::{ffi, Refusal};
 use std::ops::Range;
@@ -7,6 +7,11 @@ use std::ops::Range;
 /// The least and the greatest number of bytes of a policy file.
 pub const LEAST: usize = 36;
 pub const MOST: usize = 65_536;
+/// The offset of the first list of every policy file.
+pub const FIRST_LIST: usize = 36;
+
+/// What a policy file begins with.
+pub const MARK: &str = "Intel(R) TXT LCP_POLICY_DATA";
 
 /// A list of a policy file.
 #[derive(Clone, Debug, PartialEq, Eq)]
@@ -48,9 +53,12 @@ pub struct Launch {
     pub digests: u16,
 }
 
-/// The elements that a list may hold besides type 0x10 and still permit.
-pub const CUSTOM: u32 = 3;
+/// The type of a launch element.
 pub const LAUNCH: u32 = 0x10;
+/// The elements that a list may hold besides launch elements and still permit.
+pub const CUSTOM: u32 = 3;
+/// The type of the custom elements that tboot's tools write.
+pub const TBOOT_CUSTOM: u32 = 0x13;
 
 /// How many lists a policy file has, or 26 or 27.
 pub fn read(file: &[u8]) -> Result<usize, Refusal> {
@@ -64,9 +72,19 @@ fn span(start: u64, size: u64) -> Range<usize> {
     start as usize..(start + size) as usize
 }
 
-/// The list number i, counted from 0, where there is one.
+/// The list number i, counted from 0, where there is one. Each call reads the whole file; [`lists`] reads it once.
 pub fn list(file: &[u8], i: usize) -> Option<List> {
-    let (kind, [start, size, version, elements, elements_size, counter, key_size, key, signature]) = ffi::policy_list(file, i);
+    list_of(ffi::policy_list(file, i))
+}
+
+/// The list that stands at an offset of a string, where one does. The string is not judged as a whole.
+pub fn list_at(file: &[u8], at: usize) -> Option<List> {
+    list_of(ffi::policy_list_at(file, at))
+}
+
+/// The list of a kind with its fields.
+fn list_of((kind, fields): (u32, [u64; 9])) -> Option<List> {
+    let [start, size, version, elements, elements_size, counter, key_size, key, signature] = fields;
     let signed = match kind {
         0 => return None,
         1 => None,
@@ -75,9 +93,19 @@ pub fn list(file: &[u8], i: usize) -> Option<List> {
     Some(List { bytes: span(start, size), version: version as u16, elements: span(elements, elements_size), signed })
 }
 
-/// The element number j of the list number i, both counted from 0, where there is one.
+/// The element number j of the list number i, both counted from 0, where there is one. Each call reads the whole file.
 pub fn element(file: &[u8], i: usize, j: usize) -> Option<Element> {
-    let (answer, [start, size, kind, control, sinit_min_version, reserved, hash_alg, digests]) = ffi::policy_element(file, i, j);
+    element_of(ffi::policy_element(file, i, j))
+}
+
+/// The element that stands at an offset of a string, where one does. The string is not judged as a whole.
+pub fn element_at(file: &[u8], at: usize) -> Option<Element> {
+    element_of(ffi::policy_element_at(file, at))
+}
+
+/// The element of a kind with its fields.
+fn element_of((answer, fields): (u32, [u64; 8])) -> Option<Element> {
+    let [start, size, kind, control, sinit_min_version, reserved, hash_alg, digests] = fields;
     let launch = match answer {
         0 => return None,
         1 => Some(Launch {
@@ -89,6 +117,40 @@ pub fn element(file: &[u8], i: usize, j: usize) -> Option<Element> {
         _ => None,
     };
     Some(Element { bytes: span(start, size), kind: kind as u32, control: control as u32, launch })
+}
+
+/// All lists of a policy file with their elements, in file order and from offset to offset; none of a refused string.
+pub fn lists(file: &[u8]) -> impl Iterator<Item = (List, Vec<Element>)> + '_ {
+    let mut at = FIRST_LIST;
+    (0..read(file).unwrap_or(0)).map_while(move |_| {
+        let list = list_at(file, at)?;
+        at = list.bytes.end;
+        let elements = elements(file, &list);
+        Some((list, elements))
+    })
+}
+
+/// The elements of a list, in file order.
+pub fn elements(file: &[u8], list: &List) -> Vec<Element> {
+    let mut at = list.elements.start;
+    let next = || {
+        let element = element_at(&file[..list.elements.end], at)?;
+        at = element.bytes.end;
+        Some(element)
+    };
+    std::iter::from_fn(next).collect()
+}
+
+/// Why a list permits no image at all, where that is so by its signature or by the types of its elements, which come with their offsets.
+pub fn hindrance(signed: bool, elements: impl Iterator<Item = (u64, u32)>) -> Option<String> {
+    if signed {
+        return Some("it is signed, and signed lists do not permit yet".to_string());
+    }
+    let (j, (at, kind)) = elements.enumerate().find(|(_, (_, kind))| *kind != LAUNCH && *kind != CUSTOM)?;
+    let whose = if kind == TBOOT_CUSTOM { ", as tboot's tools write custom elements," } else { "" };
+    Some(format!(
+        "element {j} (file offset {at:#x}) has type {kind:#x}{whose} and only types {LAUNCH:#x} and {CUSTOM} are judged"
+    ))
 }
 
 /// The bytes of a digest of this algorithm, and its name; none for an algorithm that is not of the grammar.

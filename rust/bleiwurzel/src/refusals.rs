@@ -73,6 +73,28 @@ ACRAM capacity is what GETSEC[PARAMETERS] reports.
 |---|---|
 ";
 
+/// What every record that is made anew has in common: SHA-256, the version that the MLE guide has, and the signature algorithm without which
+/// `lcp2_crtpol` makes no record.
+macro_rules! record {
+    () => {
+        "--alg sha256 --polver 3.2 --mask sha256 --sign rsa-2048-sha256 --pol record.pol"
+    };
+}
+
+/// Makes a policy record and a policy file of a policy list. These are command lines of tboot's tools, which `tests/tboot_commands.sh` runs.
+macro_rules! make_policy {
+    () => {
+        concat!("`lcp2_crtpol --create --type list ", record!(), " --data policy.data policy.lst`")
+    };
+}
+
+/// Makes a policy list of an element.
+macro_rules! make_list {
+    () => {
+        "`lcp2_crtpollist --create --listver 0x201 --out policy.lst mle.elt`"
+    };
+}
+
 pub static TEXTS: [Text; 30] = [
     Text {
         number: 1,
@@ -424,8 +446,12 @@ pub static TEXTS: [Text; 30] = [
             "The kernel or hypervisor is too old for this module (version below MinMleHeaderVer).",
         ],
         technician: &[
+            "If it is the MLE header base, heap and window may be of two boots or two images: dump both again from one boot. If it stays so, hand the \
+             header base and what was expected to the image's builder.",
             "If the UUID differs, the file is no measured image, or it is loaded at another place: compare with the store's original.",
             "If the version is too low, a newer image or an older module is needed.",
+            "If it is HeaderLen, EntryPoint, FirstValidPage or MleEnd, compare the image's checksum with the store's (`sha256sum FILE`). If they differ, copy the \
+             image again; else hand the field and both values to the image's builder, since nothing at the rack repairs it.",
         ],
         builder: &[
             "Set the field that the tool names from the mapping that the loader really makes; keep the whole header in one page.",
@@ -446,8 +472,13 @@ pub static TEXTS: [Text; 30] = [
             "`ls -l`: the record has 70 bytes. A file that begins with `Intel(R) TXT LCP_POLICY_DATA` is the policy file, which belongs into the \
              window.",
             "Read the NV index again, 70 bytes from offset 0.",
+            "If it is HashAlg, the record was made for another algorithm (0x0004 is SHA-1, 0x000c SHA-384): ask the store for this host's SHA-256 \
+             record, and have it written into the TPM before the restart.",
         ],
-        builder: &["Make the record with `lcp2_crtpol --create --alg sha256` and a 3.x policy version."],
+        builder: &[
+            concat!("Make the record and its policy file anew: ", make_policy!(), "."),
+            concat!("For a policy of type ANY: `lcp2_crtpol --create --type any ", record!(), "`."),
+        ],
     },
     Text {
         number: 24,
@@ -457,7 +488,14 @@ pub static TEXTS: [Text; 30] = [
             bits at 22, is clear. It holds under ANY too.",
         causes: &["A debug or pre-production module from a test lab is in the store."],
         technician: &["Replace the module by the vendor's production module. Do not loosen the policy to get the host up."],
-        builder: &["Ship production modules. On test hosts only, set control bit 1 (`lcp2_crtpol --ctrl 0x02`) and provision the record anew."],
+        builder: &[
+            "Ship production modules.",
+            concat!(
+                "On test hosts only, set control bit 1 and provision the record anew: `lcp2_crtpol --create --type list --ctrl 0x02 ",
+                record!(),
+                " --data policy.data policy.lst`."
+            ),
+        ],
     },
     Text {
         number: 25,
@@ -482,6 +520,8 @@ pub static TEXTS: [Text; 30] = [
         technician: &[
             "If base and size are 0, the boot entry lacks the policy file (the module line for it in the boot loader's configuration).",
             "If the base lies just past the window, dump a larger window.",
+            "If a policy file by itself is refused, it is cut off, empty or another file: look at its size (`ls -l FILE`) and copy it from the store \
+             again.",
         ],
         builder: &["Load the policy file into the window's memory and write its base and exact size into OsSinitData."],
     },
@@ -503,9 +543,12 @@ pub static TEXTS: [Text; 30] = [
         technician: &[
             "Run `bleiwurzel policy FILE` on the policy file from the store. If it is accepted there, the size in OsSinitData or the loading is \
              wrong; else the file itself.",
+            "If the file itself is wrong, compare its checksum with the store's (`sha256sum FILE`). If they differ, copy it again; else hand the field \
+             and its offset to the builder.",
         ],
         builder: &[
-            "Make the file with `lcp2_crtpollist` and `lcp2_crtpol` (list version 0x200 or 0x201, RSASSA with 2,048 or 3,072 bits).",
+            concat!("Make a list of version 0x200 or 0x201, unsigned or signed with RSASSA and 2,048 or 3,072 bits: ", make_list!(), "."),
+            concat!("Then make the file of it: ", make_policy!(), "."),
             "Have the loader write the file's exact size, not rounded to pages.",
         ],
     },
@@ -524,7 +567,7 @@ pub static TEXTS: [Text; 30] = [
             "Take record and policy file from the same release; compare the two hashes that the tool shows with the release notes.",
             "Read the record from this host's TPM again; if it is the old one, it must be provisioned anew.",
         ],
-        builder: &["Make record and file in one run of `lcp2_crtpol --create --pol R --data F`, and roll out both."],
+        builder: &[concat!("Make record and file in one run, and roll out both: ", make_policy!(), ".")],
     },
     Text {
         number: 29,
@@ -549,9 +592,12 @@ pub static TEXTS: [Text; 30] = [
              algorithm, SINITMinVersion.",
         ],
         builder: &[
-            "Make an `mle` element with `--alg sha256` for the digest shown, in an unsigned list that holds nothing but `mle` and type 3 elements.",
+            "Write the digest shown into a file, with a blank after every two digits: `echo DIGEST | sed 's/../& /g' > digest.txt`.",
+            "Make an element of it: `lcp2_crtpolelt --create --type mle2 --alg sha256 --out mle.elt digest.txt`. The type is `mle2`; `mle` is a legacy \
+             element, which does not permit.",
+            concat!("Put it into an unsigned list that holds nothing but `mle2` and type 3 elements: ", make_list!(), "."),
             "Put `custom` elements of tboot's tools (type 0x13) into a list of their own, or write them with type 3.",
-            "Then make policy file and record anew, since PolicyHash changes.",
+            concat!("Then make policy file and record anew, since PolicyHash changes: ", make_policy!(), "."),
         ],
     },
     Text {
@@ -565,7 +611,7 @@ pub static TEXTS: [Text; 30] = [
             "The image is too large for a capture.",
         ],
         technician: &[
-            "Run `bleiwurzel capture show FILE`. Copy the file again in binary mode and compare checksums.",
+            "Copy the file again in binary mode and compare checksums (`sha256sum FILE`).",
             "For images over 64 KiB hand over the parts instead: `bleiwurzel check --window FILE --heap FILE ..`.",
         ],
         builder: &["Write captures with `bleiwurzel capture make`."],

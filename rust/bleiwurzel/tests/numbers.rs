@@ -50,6 +50,7 @@ const NUMBERS: &[Number] = &[
         macros: &["BLEIWURZEL_MOST_HEAP"],
         said: |n| vec![format!("the heap is over {} MiB", n >> 20)],
     },
+    Number { value: MOST_MODULE, rattle: &["HIGHEST_MODULE_END", "highestModuleEnd"], macros: &[], said: nothing },
     Number { value: MOST_CHIPSETS, rattle: &["sinit::MOST_ENTRIES", "sinit::mostEntries"], macros: &[], said: nothing },
     Number {
         value: MOST_PAGES as u64,
@@ -75,6 +76,12 @@ const NUMBERS: &[Number] = &[
         rattle: &["LARGEST_FILE", "largestFile"],
         macros: &["BLEIWURZEL_MOST_POLICY"],
         said: |n| vec![format!("its size is not 36 to {n} bytes"), format!("it does not have 36 to {n} bytes")],
+    },
+    Number {
+        value: policy::FIRST_LIST as u64,
+        rattle: &["FIRST_LIST", "firstList"],
+        macros: &["BLEIWURZEL_FIRST_LIST"],
+        said: nothing,
     },
     Number {
         value: NO_LIST as u64,

@@ -52,10 +52,14 @@ fn shown(file: &[u8]) -> String {
         Err(Refusal { number }) => return format!("refused {number}\n"),
     };
     let mut text = format!("accepted lists={count}\n");
-    for i in 0..count {
-        text.push_str(&list_line(i, &policy::list(file, i).expect("a list of the reading")));
-        let elements = (0..).map_while(|j| policy::element(file, i, j));
-        elements.enumerate().for_each(|(j, element)| text.push_str(&element_lines(file, i, j, &element)));
+    let in_turn: Vec<_> = policy::lists(file).collect();
+    assert_eq!(in_turn.len(), count);
+    for (i, (in_turn, elements_in_turn)) in in_turn.iter().enumerate() {
+        let list = policy::list(file, i).expect("a list of the reading");
+        let elements: Vec<_> = (0..).map_while(|j| policy::element(file, i, j)).collect();
+        assert_eq!((in_turn, elements_in_turn), (&list, &elements), "list {i} in turn and by number");
+        text.push_str(&list_line(i, &list));
+        elements.iter().enumerate().for_each(|(j, element)| text.push_str(&element_lines(file, i, j, element)));
     }
     assert_eq!(policy::list(file, count), None);
     assert_eq!(policy::element(file, count, 0), None);
@@ -101,6 +105,36 @@ fn parts_that_are_not_there() {
     }
     assert_eq!(policy::element(&file, 1, 0), None);
     assert_eq!(policy::list(&file[..file.len() - 1], 0), None, "a refused string has no list");
+}
+
+/// The most elements that a policy file can have, 5,457 of 12 bytes: all of them in turn take a few times as long as reading the file once, and
+/// not as often as there are elements.
+#[test]
+fn all_elements_in_turn_take_a_few_readings() {
+    let element = common::element(3, b"");
+    let (file, _) = common::policy_file(&[common::list(&vec![element; (policy::MOST - policy::FIRST_LIST - 8) / 12])]);
+    let time = |run: &dyn Fn() -> usize| {
+        let began = std::time::Instant::now();
+        assert_eq!(run(), 5_457);
+        began.elapsed()
+    };
+    let once = |_| time(&|| policy::read(&file).map_or(0, |_| 5_457));
+    let in_turn = |_| time(&|| policy::lists(&file).map(|(_, elements)| elements.len()).sum());
+    let (once, in_turn) = ((0..9).map(once).min().expect("a time"), (0..9).map(in_turn).min().expect("a time"));
+    assert!(in_turn < once * 100, "once {once:?}, in turn {in_turn:?}");
+}
+
+#[test]
+fn at_an_offset() {
+    let (file, _) = common::policy_file(&[common::list(&[common::element(3, b"x")]), common::list(&[])]);
+    let list = policy::list_at(&file, policy::FIRST_LIST).expect("the first list");
+    assert_eq!(Some(&list), policy::list(&file, 0).as_ref());
+    assert_eq!(policy::list_at(&file, list.bytes.end), policy::list(&file, 1));
+    assert_eq!(policy::element_at(&file, list.elements.start), policy::element(&file, 0, 0));
+    for at in [file.len(), file.len() + 1, usize::MAX] {
+        assert_eq!((policy::list_at(&file, at), policy::element_at(&file, at)), (None, None), "offset {at}");
+    }
+    assert_eq!(policy::list_at(&file, policy::FIRST_LIST + 1), None);
 }
 
 #[test]

@@ -1,10 +1,15 @@
 //! The texts of the refusals: the page, the C header and the crate say the same.
 
 mod common;
+#[path = "common/tool.rs"]
+mod tool;
 
-use bleiwurzel::refusals::{markdown, text, TEXTS};
+use bleiwurzel::refusals::{markdown, text, Text, TEXTS};
 use bleiwurzel::Refusal;
 use common::top;
+use std::collections::HashSet;
+use std::path::Path;
+use tool::run;
 
 fn read(path: &str) -> String {
     std::fs::read_to_string(top().join(path)).unwrap_or_else(|error| panic!("{path}: {error}"))
@@ -43,6 +48,81 @@ fn the_page_says_what_tboot_writes() {
     let page = markdown();
     let section = page.split("\n## ").find(|section| section.starts_with("29 ")).expect("a section for 29");
     assert!(section.contains("tboot's tools write `custom` elements with type 0x13, not 3."));
+}
+
+/// What stands in backticks on the page and begins like this.
+fn commands(page: &str, begin: &str) -> Vec<String> {
+    let spans = page.lines().flat_map(|line| line.split('`').skip(1).step_by(2));
+    spans.filter(|span| span.starts_with(begin)).map(str::to_string).collect()
+}
+
+/// A command line of tboot's tools is one that they take; `tests/tboot_commands.sh` runs each.
+#[test]
+fn commands_of_tboot_are_whole() {
+    let page = markdown();
+    let needed = [
+        ("lcp2_crtpolelt", &["--create", "--type mle2 ", "--alg sha256", "--out "][..]),
+        ("lcp2_crtpollist", &["--create", "--listver 0x20", "--out "]),
+        ("lcp2_crtpol ", &["--create", "--type ", "--alg sha256", "--mask sha256", "--sign ", "--pol "]),
+    ];
+    for (tool, words) in needed {
+        let commands = commands(&page, tool);
+        assert!(!commands.is_empty(), "no command line of {tool}");
+        for command in commands {
+            words.iter().for_each(|word| assert!(command.contains(word), "'{command}' lacks {word}"));
+        }
+    }
+    assert!(commands(&page, "lcp2_").iter().all(|command| command.contains(" --create ")), "a tool without what it is to do");
+}
+
+/// A command line of this tool names a command and flags that there are.
+#[test]
+fn commands_of_the_tool_are_there() {
+    let commands = commands(&markdown(), "bleiwurzel ");
+    assert!(commands.len() > 3, "{commands:?}");
+    for command in commands {
+        let words: Vec<&str> =
+            command.split(' ').skip(1).take_while(|word| word.chars().all(|c| c.is_ascii_lowercase())).collect();
+        let help = run(&[&words[..], &["--help"]].concat());
+        assert!(help.err.is_empty() && help.out.contains("Usage:"), "{command}: {}", help.err);
+        for flag in command.split(' ').filter(|word| word.starts_with("--")) {
+            assert!(help.out.contains(flag), "{command}: no flag {flag}");
+        }
+    }
+}
+
+/// All that is said of a number.
+fn sentences(text: &'static Text) -> impl Iterator<Item = &'static str> {
+    [text.meaning, text.rule].into_iter().chain([text.causes, text.technician, text.builder].into_iter().flatten().copied())
+}
+
+fn sources(folder: &Path, found: &mut Vec<(String, String)>) {
+    for entry in std::fs::read_dir(folder).expect("a folder of sources") {
+        let path = entry.expect("an entry").path();
+        if path.is_dir() {
+            sources(&path, found);
+        } else {
+            let source = std::fs::read_to_string(&path).expect("a source");
+            found.push((path.to_string_lossy().into_owned(), words(&source.replace("\\\n", " "))));
+        }
+    }
+}
+
+fn words(text: &str) -> String {
+    text.split_whitespace().collect::<Vec<_>>().join(" ")
+}
+
+#[test]
+fn no_text_of_a_refusal_is_written_twice() {
+    let mut seen = HashSet::new();
+    TEXTS.iter().flat_map(sentences).for_each(|sentence| assert!(seen.insert(sentence), "twice: {sentence}"));
+    let mut found = Vec::new();
+    sources(&top().join("rust/bleiwurzel/src"), &mut found);
+    assert!(found.len() > 20, "only {} sources", found.len());
+    for (path, source) in found.iter().filter(|(path, _)| !path.ends_with("src/refusals.rs")) {
+        let again = seen.iter().find(|sentence| source.contains(&words(sentence)));
+        assert_eq!(again, None, "{path} has it again");
+    }
 }
 
 #[test]

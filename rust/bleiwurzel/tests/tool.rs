@@ -3,77 +3,18 @@
 mod common;
 #[path = "common/json.rs"]
 mod json;
+#[path = "common/tool.rs"]
+mod tool;
 
 use bleiwurzel::{answer_capture, finding, MOST_HEAP, MOST_PAGES, MOST_WINDOW};
 use common::*;
 use json::is_json;
-use std::path::{Path, PathBuf};
-use std::process::Command;
-
-const OK: i32 = 0;
-const REFUSED: i32 = 1;
-const MISUSE: i32 = 2;
-
-struct Ran {
-    status: i32,
-    out: String,
-    err: String,
-}
-
-fn run(words: &[&str]) -> Ran {
-    let output = Command::new(env!("CARGO_BIN_EXE_bleiwurzel")).args(words).output().expect("the tool runs");
-    let text = |bytes: &[u8]| String::from_utf8(bytes.to_vec()).expect("text");
-    Ran { status: output.status.code().expect("an exit status"), out: text(&output.stdout), err: text(&output.stderr) }
-}
-
-/// A folder of its own for each test.
-fn folder(name: &str) -> PathBuf {
-    let folder = Path::new(env!("CARGO_TARGET_TMPDIR")).join(name);
-    let _ = std::fs::remove_dir_all(&folder);
-    std::fs::create_dir_all(&folder).expect("a folder for the test");
-    folder
-}
-
-fn stored(name: &str) -> String {
-    top().join("crates/stored_cases/data").join(name).to_string_lossy().into_owned()
-}
-
-/// Writes an image's parts and platform into a folder; gives the words for `check`.
-fn written(folder: &Path, image: &Image) -> Vec<String> {
-    let p = &image.platform;
-    let platform = format!(
-        "# the platform\nwindow_base = {:#x}\nheap_base = {}\nsinit_base = {:#x}\ndpr_base = {:#x}\ndpr_size = {}\nacram-capacity = {:#x}\n\
-         vendor = {:#x}\ndevice = {:#X}\nrevision = {} # the last\n",
-        p.window_base, p.heap_base, p.sinit_base, p.dpr_base, p.dpr_size, p.acram_capacity, p.vendor, p.device, p.revision
-    )
-    .replace("0XB", "0xB");
-    let parts: [(&str, &str, &[u8]); 5] = [
-        ("--window", "window.bin", &image.window),
-        ("--heap", "heap.bin", &image.heap),
-        ("--sinit", "sinit.bin", &image.sinit),
-        ("--policy-record", "record.bin", &image.record),
-        ("--platform", "platform.txt", platform.as_bytes()),
-    ];
-    let mut words = Vec::new();
-    for (flag, name, bytes) in parts {
-        let path = folder.join(name);
-        std::fs::write(&path, bytes).expect("a part is written");
-        words.extend([flag.to_string(), path.to_string_lossy().into_owned()]);
-    }
-    words
-}
-
-fn run_with(command: &[&str], words: &[String], more: &[&str]) -> Ran {
-    let words: Vec<&str> = command.iter().copied().chain(words.iter().map(String::as_str)).chain(more.iter().copied()).collect();
-    run(&words)
-}
+use tool::*;
 
 #[test]
 fn a_permitted_capture() {
     let ran = run(&["check", "--capture", &stored("00-any-example.cap")]);
-    let expected = "permitted\n\n  image   2 pages, in linear order\n          0x0000000000104000 to 0x0000000000105fff  2 pages\n  \
-                    list    none: the policy is ANY\n  digest  b3f4315730049bde635935a7c5477b129df592e0a5a86dbd9886a57af0b1b399\n";
-    assert_eq!((ran.status, ran.out.as_str(), ran.err.as_str()), (OK, expected, ""));
+    assert_eq!((ran.status, ran.out.as_str(), ran.err.as_str()), (OK, shown_in_readme("permitted").as_str(), ""));
     let ran = run(&["check", "--json", "--capture", &stored("00-any-example.cap")]);
     let expected = "{\"answer\": \"permitted\", \"number\": 0, \"pages\": 2, \"ranges\": [{\"first\": \"0x104000\", \"last\": \"0x105fff\", \
                     \"pages\": 2}], \"list\": null, \"digest\": \"b3f4315730049bde635935a7c5477b129df592e0a5a86dbd9886a57af0b1b399\"}\n";
@@ -83,30 +24,19 @@ fn a_permitted_capture() {
 #[test]
 fn a_refused_capture() {
     let ran = run(&["check", "--capture", &stored("20-dpr-second-page-only.cap")]);
-    let expected = "\
-refused 20, not protected
-A page of the image does not lie wholly in DPR, in the low PMR or in the high
-PMR.
+    assert_eq!(
+        (ran.status, ran.out.as_str(), ran.err.as_str()),
+        (REFUSED, shown_in_readme("refused 20, not protected").as_str(), "")
+    );
+}
 
-What was found
-  where     entry 0 of the page table at 0x103000 (physical 0x103000, window
-            offset 0x3000), which maps linear 0x0
-  expected  wholly in one of DPR (0x105000 to 0x105fff), PMR low (of size 0),
-            PMR high (of size 0)
-  found     page 0x104000 to 0x104fff
-
-What to do at the rack
-  - Compare DPR base and size with the host's DPR register; the size field there
-    is in MiB.
-  - Compare the page that was found with the three regions that the tool shows.
-
-What the image's builder changes
-  - Have the loader ask for PMRs that cover the whole image, or place the image
-    inside the DPR.
-
-The whole rule and the usual causes: bleiwurzel refusals 20
-";
-    assert_eq!((ran.status, ran.out.as_str(), ran.err.as_str()), (REFUSED, expected, ""));
+/// What README shows as output that begins with this line: an indented block, up to the next line that is not indented.
+fn shown_in_readme(first: &str) -> String {
+    let readme = std::fs::read_to_string(top().join("README.md")).expect("README.md");
+    let block = readme.lines().skip_while(|line| line.strip_prefix("    ") != Some(first));
+    let block = block.take_while(|line| line.is_empty() || line.starts_with("    "));
+    let lines: Vec<&str> = block.map(|line| line.strip_prefix("    ").unwrap_or(line)).collect();
+    format!("{}\n", lines.join("\n").trim_end())
 }
 
 #[test]
@@ -169,11 +99,6 @@ fn the_platform_by_flags_alone() {
     let ran = run_with(&["check"], &words[..8], &flags[..16]);
     assert_eq!(ran.status, MISUSE);
     assert!(ran.err.contains("missing: --revision."), "{}", ran.err);
-}
-
-/// Makes a file longer without writing it.
-fn lengthen(path: &Path, length: u64) {
-    std::fs::OpenOptions::new().write(true).open(path).and_then(|file| file.set_len(length)).expect("a longer file");
 }
 
 #[test]
@@ -270,6 +195,25 @@ fn policy_files() {
     assert!(ran.status == REFUSED && ran.out.contains("looks like a policy record"), "{}", ran.out);
 }
 
+/// The types that tboot's tools write have tboot's names.
+#[test]
+fn names_of_types() {
+    let kinds = [(0x10, "mle2"), (0x11, "pconf2"), (0x12, "sbios"), (0x13, "custom"), (0x14, "stm")];
+    let elements: Vec<Vec<u8>> =
+        kinds.iter().map(|(kind, _)| if *kind == 0x10 { launch(0, &[[1; 32]]) } else { element(*kind, b"x") }).collect();
+    let path = folder("names_of_types").join("types").to_string_lossy().into_owned();
+    std::fs::write(&path, policy_file(&[list(&elements), list(&elements[3..4])]).0).expect("a policy file");
+    let ran = run(&["policy", &path]);
+    for (kind, name) in kinds {
+        assert!(ran.out.contains(&format!("type: '{name}' ({kind:#x})\n")), "{name} is not in {}", ran.out);
+    }
+    assert!(
+        ran.out.contains("data: 1 byte\n") && ran.out.contains("has type 0x13, as tboot's tools write custom elements,"),
+        "{}",
+        ran.out
+    );
+}
+
 #[test]
 fn refusals() {
     assert_eq!(run(&["refusals"]).out, bleiwurzel::refusals::markdown());
@@ -288,7 +232,8 @@ fn help_on_every_level() {
     for level in levels {
         let words = [level, &["--help"]].concat();
         let ran = run(&words);
-        assert_eq!((ran.status, ran.err.as_str()), (OK, ""), "{words:?}");
+        let status = if level == ["check"] { MISUSE } else { OK };
+        assert_eq!((ran.status, ran.err.as_str()), (status, ""), "{words:?}");
         let name = ["bleiwurzel", &level.join(" ")].join(" ");
         assert!(ran.out.starts_with(name.trim_end()) && ran.out.contains("\nUsage:\n"), "{words:?}: {}", ran.out);
         let width = ran.out.lines().map(|line| line.chars().count()).max();

@@ -13,8 +13,8 @@ abbrev μ-loop : tie.MeasureT-loop
 argument-requires : tie.Need-argument-requires Inv-loop μ-loop
 argument-requires c κs = search needs
 
-from-requires : tie.Need-from-requires Inv-loop μ-loop
-from-requires c κs = search needs
+input-requires : tie.Need-input-requires Inv-loop μ-loop
+input-requires c κs = search needs
 
 returns : tie.Need-returns Inv-loop μ-loop
 returns c = search needs
@@ -47,7 +47,7 @@ main-spec =
     Inv-loop
     μ-loop
     argument-requires
-    from-requires
+    input-requires
     returns
     loop-holds
     argument-requires-2

@@ -1,7 +1,9 @@
-//! The words behind a command: flags with a value, flags without one, and other words.
+//! The words behind a command: flags with a value, flags without one, and other words. A word may be any bytes; `--` ends the flags, and `-`
+//! is no flag but the name of standard input or output.
 
-use super::{misuse, Misuse};
+use super::{files, misuse, names, Misuse};
 use std::ffi::{OsStr, OsString};
+use std::os::unix::ffi::{OsStrExt, OsStringExt};
 
 pub struct Args {
     help: &'static str,
@@ -15,17 +17,15 @@ pub fn parse(words: Vec<OsString>, help: &'static str, valued: &[&str], plain: &
     let mut args = Args { help, values: Vec::new(), plain: Vec::new(), words: Vec::new() };
     let mut words = words.into_iter();
     while let Some(word) = words.next() {
-        let text = match word.to_str().filter(|text| text.starts_with('-') && text.len() > 1) {
-            Some(text) => text,
-            None => {
-                args.words.push(word);
-                continue;
-            }
-        };
-        let (name, joined) = match text.split_once('=') {
-            Some((name, value)) => (name.to_string(), Some(OsString::from(value))),
-            None => (text.to_string(), None),
-        };
+        if word == "--" {
+            args.words.extend(words);
+            break;
+        }
+        if !word.as_bytes().starts_with(b"-") || word == files::STANDARD {
+            args.words.push(word);
+            continue;
+        }
+        let (name, joined) = split(word);
         if name == "-h" || name == "--help" {
             args.plain.push("--help".to_string());
         } else if plain.contains(&name.as_str()) {
@@ -43,10 +43,20 @@ pub fn parse(words: Vec<OsString>, help: &'static str, valued: &[&str], plain: &
             }
         } else {
             let known: Vec<&str> = valued.iter().chain(plain).copied().collect();
+            let name = names::shown_text(&name);
             return misuse(help, format!("'{help}' has no flag {name}; it has {}", known.join(", ")));
         }
     }
+    args.one_input()?;
     Ok(args)
+}
+
+/// The name of a flag, and the value that is joined to it by `=`.
+fn split(word: OsString) -> (String, Option<OsString>) {
+    let bytes = word.as_bytes();
+    let end = bytes.iter().position(|byte| *byte == b'=');
+    let name = String::from_utf8_lossy(&bytes[..end.unwrap_or(bytes.len())]).into_owned();
+    (name, end.map(|end| OsString::from_vec(bytes[end + 1..].to_vec())))
 }
 
 impl Args {
@@ -63,13 +73,23 @@ impl Args {
         names.iter().copied().filter(|name| self.value(name).is_none()).collect()
     }
 
+    /// Fails where several files are to come from standard input, which can be read once.
+    fn one_input(&self) -> Result<(), Misuse> {
+        let read = |(name, value): &&(String, OsString)| value == files::STANDARD && name != OUTPUT;
+        let flags: Vec<&str> = self.values.iter().filter(read).map(|(name, _)| name.as_str()).collect();
+        if flags.len() > 1 {
+            return misuse(self.help, format!("{} are all -, and standard input is one file; name the others", flags.join(", ")));
+        }
+        Ok(())
+    }
+
     /// Fails where there are words that are no flags; `flag` is one that such a word may be meant for.
     pub fn no_words(&self, flag: &str) -> Result<(), Misuse> {
         match self.words.first() {
             None => Ok(()),
             Some(word) => {
-                let word = word.to_string_lossy();
-                misuse(self.help, format!("'{word}' stands alone; name each file with its flag, as {flag} {word}"))
+                let (name, word) = (names::shown(word), names::quoted(word));
+                misuse(self.help, format!("'{name}' stands alone; name each file with its flag, as {flag} {word}"))
             }
         }
     }
@@ -83,3 +103,6 @@ impl Args {
         }
     }
 }
+
+/// The flag whose file is written.
+pub const OUTPUT: &str = "--output";

@@ -1,11 +1,10 @@
 //! `bleiwurzel capture make` and `bleiwurzel capture show`.
 
+use super::args::{self, Args, OUTPUT};
 use super::json::{hex, Json};
-use super::{args, check, files, help, misuse, platform, report, Misuse, Said, YES};
-use bleiwurzel::{capture, finding, Parts, Platform, Refusal};
+use super::{check, files, help, misuse, names, platform, report, save, Misuse, Said, YES};
+use bleiwurzel::{capture, finding, text, Parts, Platform, Refusal};
 use std::ffi::{OsStr, OsString};
-use std::fs::OpenOptions;
-use std::io::{ErrorKind, Write};
 
 const HELP: &str = "bleiwurzel capture";
 const MAKE: &str = "bleiwurzel capture make";
@@ -20,53 +19,59 @@ pub fn run(mut words: Vec<OsString>) -> Result<Said, Misuse> {
         Some("make") => make(rest),
         Some("show") => show(rest),
         Some("--help" | "-h") => Ok(Said { text: help::CAPTURE.to_string(), status: YES }),
-        _ => misuse(HELP, format!("captures can be made and shown: make or show, not '{}'", words[0].to_string_lossy())),
+        _ => misuse(HELP, format!("captures can be made and shown: make or show, not '{}'", names::shown(&words[0]))),
     }
 }
 
 fn make(words: Vec<OsString>) -> Result<Said, Misuse> {
-    let args = args::parse(words, MAKE, &check::flags(&["--output"]), &["--json"])?;
+    let args = args::parse(words, MAKE, &check::flags(&[OUTPUT]), &["--json"])?;
     if args.has("--help") {
         return Ok(Said { text: help::CAPTURE_MAKE.to_string(), status: YES });
     }
     args.no_words("--window")?;
-    let output = match args.value("--output") {
+    let output = output(&args)?;
+    let platform = platform::read(&args, MAKE)?;
+    let loaded = check::load(&args, MAKE, [capture::MOST as u64; 4], files::read)?;
+    let bytes = match capture::make(&loaded.parts(), &platform) {
+        Ok(bytes) => bytes,
+        Err(size) => {
+            let (most, more) = (capture::MOST, if loaded.more() { " or more" } else { "" });
+            let why = format!("a capture has at most {most} bytes, and these parts would make {size}{more}");
+            return misuse(MAKE, format!("{why}. Check the parts themselves: bleiwurzel check --window FILE .."));
+        }
+    };
+    save::write(output, &bytes, MAKE)?;
+    Ok(Said { text: wrote(output, bytes.len(), args.has("--json")), status: YES })
+}
+
+/// The file that is to be written.
+fn output(args: &Args) -> Result<&OsStr, Misuse> {
+    let output = match args.value(OUTPUT) {
         Some(output) => output,
         None => {
             return misuse(MAKE, "--output is missing; it takes the name of the capture file");
         }
     };
-    let platform = platform::read(&args, MAKE)?;
-    let loaded = check::load(&args, MAKE, [capture::MOST as u64; 4])?;
-    let bytes = match capture::make(&loaded.parts(), &platform) {
-        Ok(bytes) => bytes,
-        Err(size) => {
-            let most = capture::MOST;
-            let why = format!("a capture has at most {most} bytes, and these parts would make {size} or more");
-            return misuse(MAKE, format!("{why}. Check the parts themselves: bleiwurzel check --window FILE .."));
-        }
-    };
-    write(output, &bytes)?;
-    let name = output.to_string_lossy();
-    let text = if args.has("--json") {
-        Json::Object(vec![("written", Json::from(name.as_ref())), ("bytes", Json::from(bytes.len()))]).line()
-    } else {
-        format!("wrote {name}, {} bytes\nCheck it: bleiwurzel check --capture {name}\n", bytes.len())
-    };
-    Ok(Said { text, status: YES })
+    if output == files::STANDARD && args.has("--json") {
+        return misuse(
+            MAKE,
+            "--output - has the capture on standard output, where --json would write too; leave out one of them",
+        );
+    }
+    Ok(output)
 }
 
-/// Writes a new file. One that is there already is kept.
-fn write(path: &OsStr, bytes: &[u8]) -> Result<(), Misuse> {
-    let name = path.to_string_lossy();
-    let written = OpenOptions::new().write(true).create_new(true).open(path).and_then(|mut file| file.write_all(bytes));
-    match written {
-        Ok(()) => Ok(()),
-        Err(error) if error.kind() == ErrorKind::AlreadyExists => {
-            misuse(MAKE, format!("'{name}' is there already; remove it or choose another name for --output"))
-        }
-        Err(error) => misuse(MAKE, format!("cannot write '{name}': {error}")),
+/// What is said of a file that was written; nothing where it went to standard output.
+fn wrote(output: &OsStr, bytes: usize, json: bool) -> String {
+    if output == files::STANDARD {
+        return String::new();
     }
+    if json {
+        return Json::Object(vec![("written", Json::from(output.to_string_lossy().as_ref())), ("bytes", Json::from(bytes))])
+            .line();
+    }
+    let check = format!("bleiwurzel check --capture {}", names::quoted(output));
+    format!("wrote {}, {}\nCheck it: {check}\n", names::shown(output), text::bytes(bytes as u64))
 }
 
 fn show(words: Vec<OsString>) -> Result<Said, Misuse> {
@@ -75,11 +80,14 @@ fn show(words: Vec<OsString>) -> Result<Said, Misuse> {
         return Ok(Said { text: help::CAPTURE_SHOW.to_string(), status: YES });
     }
     let path = args.one_word("the capture file")?;
-    let bytes = files::read(path, capture::MOST as u64, "the capture", SHOW)?;
+    let file = files::read(path, capture::MOST as u64, "the capture", SHOW)?;
     let json = args.has("--json");
-    Ok(match capture::split(&bytes) {
-        Ok((parts, platform)) => Said { text: shown(&bytes, &parts, &platform, json), status: YES },
-        Err(_) => report::refused(Refusal { number: 30 }, finding::find_in_capture(30, &bytes, 0).as_ref(), json),
+    Ok(match capture::split(&file.bytes) {
+        Ok((parts, platform)) => Said { text: shown(&file.bytes, &parts, &platform, json), status: YES },
+        Err(_) => {
+            let found = finding::find_in_capture(30, &file.bytes, 0).map(|found| file.or_more(found));
+            report::refused(Refusal { number: 30 }, found.as_ref(), SHOW, json)
+        }
     })
 }
 
@@ -104,7 +112,7 @@ fn shown(bytes: &[u8], parts: &Parts, platform: &Platform, json: bool) -> String
     text.push_str(&platform::text(platform));
     text.push_str("# parts\n");
     for (name, at, length) in places(parts) {
-        text.push_str(&format!("# {name:<13}  {length:>5} bytes at file offset {at}\n"));
+        text.push_str(&format!("# {name:<13}  {:>11} at file offset {at}\n", text::bytes(length as u64)));
     }
     text
 }

@@ -12,10 +12,11 @@ Usage:
   bleiwurzel refusals [N]   what every refusal means and what to do; with a
                             number, that one
 
-Every command has its own --help with examples, and --json for programs.
+Every command has its own --help with examples, and --json for programs. A FILE
+of - is standard input, or standard output for --output; -- ends the flags.
 
-Exit status: 0 permitted (or shown), 1 refused, 2 asked wrongly; then standard
-error says what to do.
+Exit status: 0 permitted (or shown, written), 1 refused, 2 no answer; then
+standard error says what to do. Of check 0 means permitted and nothing else.
 
 Begin with a capture that somebody sent you:
   bleiwurzel check --capture host17.cap
@@ -75,6 +76,8 @@ Answers:
               do. Exit status 1. The number is the proved check's. What was
               found is worked out beside it; where that cannot say, it says
               nothing.
+  no answer   the call was wrong, or a file cannot be read; standard error says
+              what to do. Exit status 2, for this help too.
 
 Examples:
   A capture, for people and for programs (one JSON object on one line):
@@ -132,7 +135,9 @@ Usage:
 
 Parts and platform are given as for bleiwurzel check; see its --help. Nothing is
 judged here: a capture may be of an image that is refused. A file that is there
-already is not overwritten. 75 bytes and the parts must be at most 65536.
+already is not overwritten, and the capture has its name only when it is whole.
+With --output - it goes to standard output. 75 bytes and the parts must be at
+most 65536.
 
 Example:
   bleiwurzel capture make --window window.bin --heap heap.bin \\

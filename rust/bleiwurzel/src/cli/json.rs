@@ -99,7 +99,7 @@ fn quote(text: &str, out: &mut String) {
             '"' => out.push_str("\\\""),
             '\\' => out.push_str("\\\\"),
             '\n' => out.push_str("\\n"),
-            c if u32::from(c) < 0x20 => out.push_str(&format!("\\u{:04x}", u32::from(c))),
+            c if c.is_control() => out.push_str(&format!("\\u{:04x}", u32::from(c))),
             c => out.push(c),
         }
     }
@@ -113,10 +113,13 @@ mod tests {
     #[test]
     fn written() {
         let object = Json::Object(vec![
-            ("a", Json::from("x\"\\\n\u{1}é")),
+            ("a", Json::from("x\"\\\n\u{1}\u{9b}é")),
             ("b", Json::List(vec![Json::Null, Json::Bool(true), Json::Number(u64::MAX)])),
             ("c", Json::Object(Vec::new())),
         ]);
-        assert_eq!(object.line(), "{\"a\": \"x\\\"\\\\\\n\\u0001é\", \"b\": [null, true, 18446744073709551615], \"c\": {}}\n");
+        assert_eq!(
+            object.line(),
+            "{\"a\": \"x\\\"\\\\\\n\\u0001\\u009bé\", \"b\": [null, true, 18446744073709551615], \"c\": {}}\n"
+        );
     }
 }

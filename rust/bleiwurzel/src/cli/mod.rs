@@ -6,21 +6,25 @@ mod check;
 mod files;
 mod help;
 mod json;
+mod module;
+mod names;
 mod platform;
 mod policy;
 mod refusals;
 mod report;
+mod save;
 mod wrap;
 
 use std::ffi::OsString;
-use std::io::{ErrorKind, Write};
+use std::io::{self, ErrorKind, Write};
+use std::panic::{self, UnwindSafe};
 use std::process::ExitCode;
 
-/// Permitted, accepted, shown or written.
+/// Permitted, accepted, shown or written. Of `check` it means permitted and nothing else.
 pub const YES: u8 = 0;
 /// Refused.
 pub const NO: u8 = 1;
-/// Asked wrongly.
+/// No answer: asked wrongly, or something cannot be read or written.
 pub const MISUSE: u8 = 2;
 
 /// What a command says.
@@ -41,22 +45,35 @@ pub fn misuse<T>(help: &'static str, message: impl Into<String>) -> Result<T, Mi
 }
 
 pub fn run(words: Vec<OsString>) -> ExitCode {
-    let status = match command(words) {
+    ExitCode::from(caught(|| answered(words)))
+}
+
+/// A fault of this program is no answer either; it has not the status that Rust gives, which no help speaks of.
+fn caught(work: impl FnOnce() -> u8 + UnwindSafe) -> u8 {
+    panic::catch_unwind(work).unwrap_or(MISUSE)
+}
+
+fn answered(words: Vec<OsString>) -> u8 {
+    match command(words) {
         Ok(said) => print(&said),
         Err(misuse) => {
-            eprintln!("bleiwurzel: {}\nMore: {} --help", misuse.message, misuse.help);
+            complain(&format!("{}\nMore: {} --help", misuse.message, misuse.help));
             MISUSE
         }
-    };
-    ExitCode::from(status)
+    }
+}
+
+/// Says on standard error what is wrong. Where that cannot be written either, the status is left to say it.
+fn complain(message: &str) {
+    let _ = writeln!(io::stderr(), "bleiwurzel: {message}");
 }
 
 /// Prints and gives the status. A reader that has gone away does not matter; what cannot be written otherwise does.
 fn print(said: &Said) -> u8 {
-    let mut out = std::io::stdout().lock();
+    let mut out = io::stdout().lock();
     match out.write_all(said.text.as_bytes()).and_then(|()| out.flush()) {
         Err(error) if error.kind() != ErrorKind::BrokenPipe => {
-            eprintln!("bleiwurzel: cannot write to standard output: {error}");
+            complain(&format!("cannot write to standard output: {error}"));
             MISUSE
         }
         _ => said.status,
@@ -76,8 +93,19 @@ fn command(mut words: Vec<OsString>) -> Result<Said, Misuse> {
         Some("--help" | "-h" | "help") => Ok(Said { text: help::MAIN.to_string(), status: YES }),
         Some("--version") => Ok(Said { text: format!("bleiwurzel {}\n", env!("CARGO_PKG_VERSION")), status: YES }),
         _ => {
-            let word = words[0].to_string_lossy();
+            let word = names::shown(&words[0]);
             misuse("bleiwurzel", format!("there is no command '{word}'; there are check, policy, capture and refusals"))
         }
+    }
+}
+
+#[cfg(test)]
+mod tests {
+    use super::*;
+
+    #[test]
+    fn a_fault_of_the_program_is_no_answer() {
+        assert_eq!([YES, NO, MISUSE].map(|status| caught(move || status)), [YES, NO, MISUSE]);
+        assert_eq!(caught(|| panic!("as it should, to test what becomes of it")), MISUSE);
     }
 }

@@ -1,7 +1,7 @@
 //! The platform's nine numbers, from flags, from a text file or from both.
 
 use super::args::Args;
-use super::{files, misuse, Misuse};
+use super::{files, misuse, names, Misuse};
 use bleiwurzel::Platform;
 
 /// The keys in the order of a capture, and the bits of each number.
@@ -57,7 +57,8 @@ pub fn text(platform: &Platform) -> String {
 
 /// A decimal number, or a hexadecimal one with 0x, of so many bits.
 fn number(text: &str, bits: u32) -> Result<u64, String> {
-    let wrong = || format!("'{text}' is no number; write decimal digits, or 0x and hexadecimal digits");
+    let shown = names::shown_text(text);
+    let wrong = || format!("'{shown}' is no number; write decimal digits, or 0x and hexadecimal digits");
     let (digits, radix) = match text.strip_prefix("0x").or_else(|| text.strip_prefix("0X")) {
         Some(digits) => (digits, 16),
         None => (text, 10),
@@ -66,7 +67,7 @@ fn number(text: &str, bits: u32) -> Result<u64, String> {
         return Err(wrong());
     }
     let value = u64::from_str_radix(digits, radix).ok().filter(|value| bits == 64 || value >> bits == 0);
-    value.ok_or_else(|| format!("'{text}' does not fit into {bits} bits"))
+    value.ok_or_else(|| format!("'{shown}' does not fit into {bits} bits"))
 }
 
 /// Reads the text of a platform file into the places of `KEYS`.
@@ -80,7 +81,7 @@ fn read_text(text: &str, found: &mut [Option<u64>; 9]) -> Result<(), String> {
         let (key, value) = match line.split_once('=') {
             Some((key, value)) => (key, value),
             None => {
-                return Err(at(format!("'{line}' is not of the form key = value")));
+                return Err(at(format!("'{}' is not of the form key = value", names::shown_text(line))));
             }
         };
         let key = key.trim().replace('-', "_");
@@ -88,6 +89,7 @@ fn read_text(text: &str, found: &mut [Option<u64>; 9]) -> Result<(), String> {
             Some(place) => place,
             None => {
                 let known: Vec<&str> = KEYS.iter().map(|(known, _, _)| *known).collect();
+                let key = names::shown_text(&key);
                 return Err(at(format!("there is no key '{key}'; the keys are {}", known.join(", "))));
             }
         };
@@ -103,18 +105,18 @@ fn read_text(text: &str, found: &mut [Option<u64>; 9]) -> Result<(), String> {
 pub fn read(args: &Args, help: &'static str) -> Result<Platform, Misuse> {
     let mut found = [None; 9];
     if let Some(path) = args.value("--platform") {
-        let bytes = files::read(path, MOST_TEXT, "the platform", help)?;
-        let name = path.to_string_lossy();
-        if bytes.len() as u64 > MOST_TEXT {
-            return misuse(help, format!("'{name}' is no platform file: it has over {MOST_TEXT} bytes"));
+        let file = files::read(path, MOST_TEXT, "the platform", help)?;
+        let name = files::shown(path);
+        if file.length.more {
+            return misuse(help, format!("{name} is no platform file: it has over {MOST_TEXT} bytes"));
         }
-        let text = match String::from_utf8(bytes) {
+        let text = match String::from_utf8(file.bytes) {
             Ok(text) => text,
             Err(_) => {
-                return misuse(help, format!("'{name}' is no platform file: it is no text"));
+                return misuse(help, format!("{name} is no platform file: it is no text"));
             }
         };
-        read_text(&text, &mut found).or_else(|message| misuse(help, format!("'{name}', {message}")))?;
+        read_text(&text, &mut found).or_else(|message| misuse(help, format!("{name}, {message}")))?;
     }
     for (place, (_, flag, bits)) in found.iter_mut().zip(KEYS) {
         let value = match args.value(flag) {

@@ -1,9 +1,9 @@
 //! `bleiwurzel policy`: the reading of a policy file, in the manner of tboot's `lcp2_crtpol --show`.
 
 use super::json::{hex, Json};
-use super::report::digits;
 use super::{args, files, help, report, Misuse, Said, YES};
 use bleiwurzel::policy::{self, Element, Launch, List};
+use bleiwurzel::text::{bytes, digits};
 use bleiwurzel::{finding, RECORD_LENGTH};
 use std::ffi::OsString;
 
@@ -17,30 +17,28 @@ pub fn run(words: Vec<OsString>) -> Result<Said, Misuse> {
     let path = args.one_word("the policy file")?;
     let file = files::read(path, policy::MOST as u64, "the policy file", HELP)?;
     let json = args.has("--json");
-    Ok(match policy::read(&file) {
-        Ok(_) => Said { text: shown(&file, json), status: YES },
+    Ok(match policy::read(&file.bytes) {
+        Ok(_) => Said { text: shown(&file.bytes, json), status: YES },
         Err(refusal) => {
-            let mut said = report::refused(refusal, finding::find_in_policy(refusal.number, &file).as_ref(), json);
-            if !json && file.len() == RECORD_LENGTH && file[1] == 3 {
-                said.text.push_str(
-                    "\nThis looks like a policy record (70 bytes, version 3): hand it to bleiwurzel check as --policy-record.\n",
-                );
+            let found = finding::find_in_policy(refusal.number, &file.bytes).map(|found| file.or_more(found));
+            let mut said = report::refused(refusal, found.as_ref(), HELP, json);
+            if !json && is_record(&file.bytes) {
+                said.text.push_str(&format!(
+                    "\nThis looks like a policy record ({RECORD_LENGTH} bytes, version 3): hand it to bleiwurzel check as --policy-record.\n",
+                ));
             }
             said
         }
     })
 }
 
-fn lists(file: &[u8]) -> impl Iterator<Item = (List, Vec<Element>)> + '_ {
-    (0..).map_while(move |i| {
-        let list = policy::list(file, i)?;
-        Some((list, (0..).map_while(|j| policy::element(file, i, j)).collect()))
-    })
+fn is_record(file: &[u8]) -> bool {
+    file.len() == RECORD_LENGTH && file[1] == 3
 }
 
 fn shown(file: &[u8], json: bool) -> String {
     if json {
-        let lists: Vec<Json> = lists(file).map(|(list, elements)| list_json(file, &list, &elements)).collect();
+        let lists: Vec<Json> = policy::lists(file).map(|(list, elements)| list_json(file, &list, &elements)).collect();
         return Json::Object(vec![
             ("answer", Json::from("accepted")),
             ("number", Json::from(0u32)),
@@ -49,9 +47,9 @@ fn shown(file: &[u8], json: bool) -> String {
         ])
         .line();
     }
-    let all: Vec<_> = lists(file).collect();
-    let mut text =
-        format!("accepted, {} bytes\nfile_signature: Intel(R) TXT LCP_POLICY_DATA\nnum_lists: {}\n", file.len(), all.len());
+    let all: Vec<_> = policy::lists(file).collect();
+    let size = bytes(file.len() as u64);
+    let mut text = format!("accepted, {size}\nfile_signature: {}\nnum_lists: {}\n", policy::MARK, all.len());
     for (i, (list, elements)) in all.iter().enumerate() {
         text.push_str(&list_text(file, i, list, elements));
     }
@@ -60,13 +58,9 @@ fn shown(file: &[u8], json: bool) -> String {
 
 /// Why a list cannot permit any image, where that is so.
 fn hindrance(list: &List, elements: &[Element]) -> Option<String> {
-    if list.signed.is_some() {
-        return Some("it is signed, and signed lists do not permit yet".to_string());
-    }
-    let judged = |element: &Element| element.launch.is_some() || element.kind == policy::CUSTOM;
-    if let Some((j, other)) = elements.iter().enumerate().find(|(_, element)| !judged(element)) {
-        let custom = if other.kind == 0x13 { ", as tboot's tools write custom elements," } else { "" };
-        return Some(format!("element {j} has type {:#x}{custom} and only types 0x10 and 3 are judged", other.kind));
+    let kinds = elements.iter().map(|element| (element.bytes.start as u64, element.kind));
+    if let Some(hindrance) = policy::hindrance(list.signed.is_some(), kinds) {
+        return Some(hindrance);
     }
     let sha256 = |launch: &Launch| launch.hash_alg == 0x000b && launch.digests > 0;
     if !elements.iter().filter_map(|element| element.launch.as_ref()).any(sha256) {
@@ -75,17 +69,16 @@ fn hindrance(list: &List, elements: &[Element]) -> Option<String> {
     None
 }
 
+/// The name of an element's type: tboot's, and Intel's for 2 and 3, which tboot's tools do not know.
 fn kind(kind: u32) -> &'static str {
     match kind {
         0 => "mle",
         1 => "pconf",
-        2 => "sbios",
-        3 => "custom",
-        0x10 => "mle2",
+        2 | 0x12 => "sbios",
+        policy::CUSTOM | policy::TBOOT_CUSTOM => "custom",
+        policy::LAUNCH => "mle2",
         0x11 => "pconf2",
-        0x12 => "sbios2",
-        0x13 => "custom2, tboot's custom",
-        0x14 => "stm2",
+        0x14 => "stm",
         _ => "unknown",
     }
 }
@@ -93,7 +86,7 @@ fn kind(kind: u32) -> &'static str {
 fn list_text(file: &[u8], i: usize, list: &List, elements: &[Element]) -> String {
     let algorithm = if list.signed.is_some() { "TPM_ALG_RSASSA (0x14)" } else { "TPM_ALG_NULL (0x10)" };
     let size = list.elements.len();
-    let mut text = format!("list {i}: offset {:#x}, {} bytes\n", list.bytes.start, list.bytes.len());
+    let mut text = format!("list {i}: offset {:#x}, {}\n", list.bytes.start, bytes(list.bytes.len() as u64));
     text.push_str(&format!("    version: {:#x}\n    sig_alg: {algorithm}\n", list.version));
     text.push_str(&format!("    policy_elements_size: {size:#x} ({size})\n"));
     for (j, element) in elements.iter().enumerate() {
@@ -126,7 +119,7 @@ fn element_text(file: &[u8], j: usize, element: &Element) -> String {
         Some(launch) => launch,
         None => {
             let body = &file[element.bytes.start + 12..element.bytes.end];
-            text.push_str(&format!("        data: {} bytes\n", body.len()));
+            text.push_str(&format!("        data: {}\n", bytes(body.len() as u64)));
             body.chunks(32).for_each(|line| text.push_str(&format!("            {}\n", digits(line))));
             return text;
         }

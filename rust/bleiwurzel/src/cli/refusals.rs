@@ -2,7 +2,7 @@
 
 use super::json::{texts, Json};
 use super::wrap::{points, wrapped};
-use super::{args, help, misuse, Misuse, Said, YES};
+use super::{args, help, misuse, names, Misuse, Said, YES};
 use bleiwurzel::refusals::{self, Text};
 use std::ffi::OsString;
 
@@ -18,11 +18,11 @@ pub fn run(words: Vec<OsString>) -> Result<Said, Misuse> {
         [] if json => Json::List(refusals::TEXTS.iter().map(one_json).collect()).line(),
         [] => refusals::markdown(),
         [word] => {
-            let word = word.to_string_lossy();
-            let text = match word.parse().ok().and_then(refusals::text) {
+            let text = match word.to_str().and_then(|word| word.parse().ok()).and_then(refusals::text) {
                 Some(text) => text,
                 None => {
-                    return misuse(HELP, format!("'{word}' is no refusal; they are numbered 1 to 30"));
+                    let (word, last) = (names::shown(word), refusals::TEXTS.len());
+                    return misuse(HELP, format!("'{word}' is no refusal; they are numbered 1 to {last}"));
                 }
             };
             if json {

@@ -4,6 +4,8 @@ use super::json::{hex, texts, Json};
 use super::wrap::{points, wrapped};
 use super::{Said, NO, YES};
 use bleiwurzel::finding::Finding;
+use bleiwurzel::refusals::Text;
+use bleiwurzel::text::{counted, digits};
 use bleiwurzel::{Permission, Refusal, PAGE_SIZE};
 
 /// Pages that follow one another in memory as well as in linear order: the first byte, and how many.
@@ -18,16 +20,8 @@ fn ranges(pages: &[u64]) -> Vec<(u64, u64)> {
     ranges
 }
 
-pub fn digits(bytes: &[u8]) -> String {
-    bytes.iter().map(|byte| format!("{byte:02x}")).collect()
-}
-
 fn pages(count: u64) -> String {
-    if count == 1 {
-        "1 page".to_string()
-    } else {
-        format!("{count} pages")
-    }
+    counted(count, "page")
 }
 
 pub fn permitted(permission: &Permission, list: &[u64], json: bool) -> Said {
@@ -63,12 +57,19 @@ fn permitted_json(permission: &Permission, ranges: &[(u64, u64)]) -> Json {
     ])
 }
 
-pub fn refused(refusal: Refusal, finding: Option<&Finding>, json: bool) -> Said {
-    let text = if json { refused_json(refusal, finding).line() } else { refused_text(refusal, finding) };
+/// A refusal that `command` met.
+pub fn refused(refusal: Refusal, finding: Option<&Finding>, command: &str, json: bool) -> Said {
+    let text = if json { refused_json(refusal, finding, command).line() } else { refused_text(refusal, finding, command) };
     Said { text, status: NO }
 }
 
-fn refused_text(refusal: Refusal, finding: Option<&Finding>) -> String {
+/// What a technician checks, without the advice to run the command that is running.
+fn technician(about: &Text, command: &str) -> Vec<&'static str> {
+    let same = format!("`{command} FILE`");
+    about.technician.iter().copied().filter(|point| !point.contains(&same)).collect()
+}
+
+fn refused_text(refusal: Refusal, finding: Option<&Finding>, command: &str) -> String {
     let number = refusal.number;
     let about = match refusal.text() {
         Some(about) => about,
@@ -85,13 +86,13 @@ fn refused_text(refusal: Refusal, finding: Option<&Finding>) -> String {
         wrapped(&mut text, "  found     ", &finding.found);
         finding.notes.iter().for_each(|note| wrapped(&mut text, "            ", note));
     }
-    points(&mut text, "What to do at the rack", about.technician);
+    points(&mut text, "What to do at the rack", &technician(about, command));
     points(&mut text, "What the image's builder changes", about.builder);
     text.push_str(&format!("\nThe whole rule and the usual causes: bleiwurzel refusals {number}\n"));
     text
 }
 
-fn refused_json(refusal: Refusal, finding: Option<&Finding>) -> Json {
+fn refused_json(refusal: Refusal, finding: Option<&Finding>, command: &str) -> Json {
     let about = refusal.text();
     let found = finding.map_or(Json::Null, |finding| {
         Json::Object(vec![
@@ -107,7 +108,7 @@ fn refused_json(refusal: Refusal, finding: Option<&Finding>) -> Json {
         ("name", about.map_or(Json::Null, |about| Json::from(about.name))),
         ("meaning", Json::from(refusal.meaning())),
         ("finding", found),
-        ("technician", about.map_or(Json::Null, |about| texts(about.technician))),
+        ("technician", about.map_or(Json::Null, |about| texts(&technician(about, command)))),
         ("builder", about.map_or(Json::Null, |about| texts(about.builder))),
     ])
 }

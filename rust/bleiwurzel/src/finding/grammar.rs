@@ -1,11 +1,9 @@
 //! Rules 26 (by length alone) and 27: the grammar of policy files. The place of a fault is the first field, in file order, that does not
 //! fit or breaks its rule.
 
-use super::{bytes_of, fail, need, number, spaced, Step};
+use super::{bytes, bytes_of, counted, fail, need, number, spaced, Length, Step};
 use crate::policy;
 use std::ops::Range;
-
-const MARK: &[u8; 28] = b"Intel(R) TXT LCP_POLICY_DATA";
 
 pub struct List {
     pub bytes: Range<u64>,
@@ -35,16 +33,15 @@ struct Reader<'a> {
 /// The reading of a string by itself.
 pub fn read_alone(file: &[u8]) -> Step<Vec<List>> {
     let expected = format!("{} to {} bytes", policy::LEAST, policy::MOST);
-    let more = if file.len() == policy::MOST + 1 { " or more" } else { "" };
     let fits = (policy::LEAST..=policy::MOST).contains(&file.len());
-    need(fits, 26, "length of the policy file", expected, format!("{} bytes{more}", file.len()))?;
+    need(fits, 26, "length of the policy file", expected, Length::of(file).to_string())?;
     read(file, None)
 }
 
 /// The reading of a file of 36 to 65,536 bytes.
 pub fn read(file: &[u8], base: Option<u64>) -> Step<Vec<List>> {
     let reader = Reader { file, base };
-    reader.fixed(0, MARK, "the mark, `Intel(R) TXT LCP_POLICY_DATA`")?;
+    reader.fixed(0, policy::MARK.as_bytes(), &format!("the mark, `{}`", policy::MARK))?;
     reader.fixed(28, &[0; 4], "the 4 zeros behind the mark")?;
     reader.fixed(32, &[0; 3], "the 3 zeros before the list count")?;
     let count = reader.number(35, 1, "the list count")?;
@@ -58,7 +55,7 @@ pub fn read(file: &[u8], base: Option<u64>) -> Step<Vec<List>> {
     }
     let left = file.len() as u64 - at;
     let place = reader.place("the end of the last list", at);
-    need(left == 0, 27, place, "the file's end", format!("bytes left: {left}"))?;
+    need(left == 0, 27, place, "the file's end", format!("{} left", bytes(left)))?;
     Ok(lists)
 }
 
@@ -86,8 +83,8 @@ impl Reader<'_> {
             _ => fail(
                 27,
                 self.place(name, at),
-                format!("{width} bytes inside {whole}"),
-                format!("{} bytes left", end.saturating_sub(at)),
+                format!("{} inside {whole}", bytes(width as u64)),
+                format!("{} left", bytes(end.saturating_sub(at))),
             ),
         }
     }
@@ -122,7 +119,8 @@ impl Reader<'_> {
         for (field, begin) in [("the key", at + 4), ("the signature", at + 4 + size)] {
             let left = length.saturating_sub(begin);
             let place = self.place(&name(field), begin);
-            need(begin + size <= length, 27, place, format!("{size} bytes inside the file"), format!("{left} bytes left"))?;
+            let found = format!("{} left", bytes(left));
+            need(begin + size <= length, 27, place, format!("{size} bytes inside the file"), found)?;
         }
         Ok((Some(at + 4..at + 4 + size), at + 4 + 2 * size))
     }
@@ -134,7 +132,7 @@ impl Reader<'_> {
             let name = |field: &str| format!("{field} of element {} of list {list}", elements.len());
             let left = end - at;
             let place = self.place(&name("the size"), at);
-            let found = format!("{left} bytes left in the list's elements");
+            let found = format!("{} left in the list's elements", bytes(left));
             need(left >= 12, 27, place.as_str(), "an element of at least 12 bytes, or no bytes", found)?;
             let size = self.number(at, 4, "")?;
             need(size >= 12, 27, place.as_str(), "at least 12, since the size counts size, type and control", size.to_string())?;
@@ -166,7 +164,8 @@ impl Reader<'_> {
         let length = length as u64;
         let whole = 18 + count * length;
         let expected = format!("digests of {length} bytes that fill the element of {size} bytes");
-        let found = format!("{count} digests, which make {whole} bytes");
+        let makes = if count == 1 { "makes" } else { "make" };
+        let found = format!("{}, which {makes} {whole} bytes with what stands before", counted(count, "digest"));
         need(whole == size, 27, self.place(&name("the digest count"), at + 16), expected, found)?;
         let digests = (0..count).map(|k| at + 18 + k * length..at + 18 + (k + 1) * length).collect();
         Ok(Launch { sinit_min_version, hash_alg, digests })

@@ -1,6 +1,6 @@
 //! Rules 2 to 5: the parts of the heap, OsSinitData, its elements, the PMRs.
 
-use super::{fail, field, need, number, Step};
+use super::{bytes, fail, field, need, number, Step};
 use crate::HIGHEST_END;
 
 /// A range of memory as base and size.
@@ -74,7 +74,8 @@ fn parts(heap: &[u8]) -> Step<(u64, u64)> {
         let size = match number(heap, at, 8) {
             Some(size) => size,
             None => {
-                return fail(2, place, "8 bytes for the size field", format!("{left} bytes left in the heap of {}", heap.len()));
+                let found = format!("{} left in the heap of {}", bytes(left), heap.len());
+                return fail(2, place, "8 bytes for the size field", found);
             }
         };
         need(size >= 8, 2, place.as_str(), "at least 8, since the size counts itself", size.to_string())?;
@@ -90,23 +91,20 @@ fn elements(heap: &[u8], start: u64, end: u64) -> Step<()> {
     let mut at = start + 100;
     for index in 0.. {
         let left = end - at;
-        let place = |what: &str| format!("element {index} of OsSinitData, {what} (heap offset {at:#x})");
+        let place = |what: &str, offset: u64| format!("element {index} of OsSinitData, {what} (heap offset {:#x})", at + offset);
         if left < 8 {
-            return fail(
-                4,
-                place("type and size"),
-                "an end element (type 0, size 8) inside OsSinitData",
-                format!("{left} bytes left"),
-            );
+            let expected = "an end element (type 0, size 8) inside OsSinitData";
+            return fail(4, place("type and size", 0), expected, format!("{} left", bytes(left)));
         }
         let kind = field(heap, at, 4);
         let size = field(heap, at + 4, 4);
         let found = format!("type {kind:#x}, size {size}");
         if kind == 0 {
-            return need(size == 8, 4, place("the end element"), "type 0 with size 8", found);
+            return need(size == 8, 4, place("the end element", 0), "type 0 with size 8", found);
         }
-        need(size >= 8, 4, place("size"), "at least 8, since the size counts type and size", found.as_str())?;
-        need(size <= left, 4, place("size"), format!("at most {left}, the bytes left in OsSinitData"), found)?;
+        let of_size = place("size", 4);
+        need(size >= 8, 4, of_size.as_str(), "at least 8, since the size counts type and size", found.as_str())?;
+        need(size <= left, 4, of_size, format!("at most {left}, the bytes left in OsSinitData"), found)?;
         at += size;
     }
     Ok(())

@@ -3,14 +3,14 @@
 use super::heap::OsSinitData;
 use super::module::Module;
 use super::walk::Mapped;
-use super::{bytes_of, fail, field, need, spaced, Step};
+use super::{bytes, bytes_of, fail, field, need, spaced, Step};
 use crate::PAGE_SIZE;
 
 const UUID: [u8; 16] = [0x5a, 0xac, 0x82, 0x90, 0x6f, 0x47, 0xa7, 0x74, 0x0f, 0x5c, 0x55, 0xa2, 0xcb, 0x51, 0xb6, 0x42];
 
 pub fn counted(mapped: &Mapped, count: u64) -> Step<()> {
     let found = mapped.pages.len() as u64;
-    let expected = format!("{count}, which is MLE Size / 4096");
+    let expected = format!("{count}, which is MLE Size / {PAGE_SIZE}");
     need(found == count, 21, "the number of pages that the tables map", expected, found.to_string())
 }
 
@@ -24,7 +24,7 @@ pub fn header(window: &[u8], window_base: u64, asked: &OsSinitData, module: &Mod
         return fail(22, of_base, format!("a linear address in the mapped range, {range}"), format!("{base:#x}"));
     }
     let offset = base % PAGE_SIZE;
-    let found = format!("{base:#x}, which is {offset} bytes into its page");
+    let found = format!("{base:#x}, which is {} into its page", bytes(offset));
     need(offset <= 4044, 22, of_base, "at most 4044 bytes into its page, so that 52 bytes fit", found)?;
     let page = mapped.pages[((base - begin) / PAGE_SIZE) as usize];
     let at = page - window_base + offset;
@@ -52,9 +52,16 @@ pub fn header(window: &[u8], window_base: u64, asked: &OsSinitData, module: &Mod
     )
 }
 
-/// SHA-256 over the pages in linear order.
+/// SHA-256 over the pages in linear order. A refusal carries no digest, so that it is worked out here, once. Pages that also follow one
+/// another in memory, as loaders place them, are read where they stand; others are joined first.
 pub fn digest(window: &[u8], window_base: u64, mapped: &Mapped) -> [u8; 32] {
-    let mut message = Vec::with_capacity(mapped.pages.len() * PAGE_SIZE as usize);
-    mapped.pages.iter().for_each(|page| message.extend_from_slice(bytes_of(window, page - window_base, PAGE_SIZE as usize)));
+    let pages = &mapped.pages;
+    let length = pages.len() * PAGE_SIZE as usize;
+    let first = pages.first().copied().unwrap_or(window_base);
+    if pages.windows(2).all(|two| two[1] == two[0] + PAGE_SIZE) {
+        return crate::sha256(bytes_of(window, first - window_base, length));
+    }
+    let mut message = Vec::with_capacity(length);
+    pages.iter().for_each(|page| message.extend_from_slice(bytes_of(window, page - window_base, PAGE_SIZE as usize)));
     crate::sha256(&message)
 }

@@ -3,7 +3,7 @@
 use super::grammar::{Element, Launch, List};
 use super::heap::OsSinitData;
 use super::module::Module;
-use super::{bytes_of, field, hex, need, Finding, Step};
+use super::{bytes_of, digits, field, need, Finding, Length, Step};
 use crate::{policy, sha256, RECORD_LENGTH};
 
 pub struct Record {
@@ -13,11 +13,10 @@ pub struct Record {
     hash: Vec<u8>,
 }
 
-pub fn record(record: &[u8]) -> Step<Record> {
-    let length = record.len();
-    let more = if length == RECORD_LENGTH + 1 { " or more" } else { "" };
+pub fn record(record: &[u8], length: &Length) -> Step<Record> {
     let expected = format!("exactly {RECORD_LENGTH} bytes");
-    need(length == RECORD_LENGTH, 23, "length of the policy record", expected, format!("{length} bytes{more}"))?;
+    let fits = length.bytes == RECORD_LENGTH as u64;
+    need(fits, 23, "length of the policy record", expected, length.to_string())?;
     let version = field(record, 0, 2);
     need(version >> 8 == 3, 23, "version, record offset 0", "high byte 3, as 0x0302", format!("{version:#06x}"))?;
     let algorithm = field(record, 2, 2);
@@ -93,9 +92,11 @@ pub fn hash(lists: &[List], file: &[u8], record: &Record) -> Step<()> {
     Err(Finding {
         number: 28,
         place: "PolicyHash, record offset 38".to_string(),
-        expected: format!("{}, the hash of the policy file's lists", hex(&hash)),
-        found: hex(&record.hash),
-        notes: notes.map(|(i, (list, measure))| format!("list {i}: SHA-256 of its {} is {}", kind(list), hex(measure))).collect(),
+        expected: format!("{}, the hash of the policy file's lists", digits(&hash)),
+        found: digits(&record.hash),
+        notes: notes
+            .map(|(i, (list, measure))| format!("list {i}: SHA-256 of its {} is {}", kind(list), digits(measure)))
+            .collect(),
     })
 }
 
@@ -111,7 +112,7 @@ pub fn permits(lists: &[List], file: &[u8], module: &Module, digest: &[u8; 32]) 
     Err(Finding {
         number: 29,
         place: "the lists of the policy file, counted from 0".to_string(),
-        expected: format!("an unsigned list of types 0x10 and 3 only, with a SHA-256 element that names {}", hex(digest)),
+        expected: format!("an unsigned list of types 0x10 and 3 only, with a SHA-256 element that names {}", digits(digest)),
         found: format!("{} in the file, and none like that", lists.len()),
         notes,
     })
@@ -119,7 +120,6 @@ pub fn permits(lists: &[List], file: &[u8], module: &Module, digest: &[u8; 32]) 
 
 /// Why a list does not permit, where it does not.
 fn objection(list: &List, file: &[u8], module: &Module, digest: &[u8; 32]) -> Option<String> {
-    let judged = |element: &Element| element.kind == 3 || element.launch.is_some();
     let named: Vec<(usize, &Element)> =
         list.elements.iter().enumerate().filter(|(_, element)| names(element, file, digest)).collect();
     let low_enough = |element: &Element| {
@@ -128,14 +128,10 @@ fn objection(list: &List, file: &[u8], module: &Module, digest: &[u8; 32]) -> Op
             .as_ref()
             .map_or(false, |launch| launch.hash_alg == 0x000b && launch.sinit_min_version <= module.acm_version)
     };
-    let also = if named.is_empty() { " (and it does not name the digest)" } else { "" };
-    if list.key.is_some() {
-        return Some(format!("signed; signed lists do not permit yet{also}"));
-    }
-    if let Some((j, other)) = list.elements.iter().enumerate().find(|(_, element)| !judged(element)) {
-        let custom = if other.kind == 0x13 { ", which tboot's tools write for custom" } else { "" };
-        let at = other.at;
-        return Some(format!("element {j} (file offset {at:#x}) has type {:#x}{custom}, not 0x10 or 3{also}", other.kind));
+    let kinds = list.elements.iter().map(|element| (element.at, element.kind as u32));
+    if let Some(hindrance) = policy::hindrance(list.key.is_some(), kinds) {
+        let also = if named.is_empty() { " (and it does not name the digest)" } else { "" };
+        return Some(format!("{hindrance}{also}"));
     }
     if named.iter().any(|(_, element)| low_enough(element)) {
         return None;
@@ -159,7 +155,7 @@ fn unnamed(list: &List) -> String {
     let launches: Vec<&Launch> = list.elements.iter().filter_map(|element| element.launch.as_ref()).collect();
     let others = launches.iter().filter(|launch| launch.hash_alg == 0x000b).map(|launch| launch.digests.len()).sum::<usize>();
     let by_others = launches.iter().filter(|launch| launch.hash_alg != 0x000b).map(|launch| launch.digests.len()).sum::<usize>();
-    format!("does not name the digest; it names {others} other by SHA-256 and {by_others} by other algorithms")
+    format!("it does not name the digest; it names {others} other by SHA-256 and {by_others} by other algorithms")
 }
 
 /// Whether this is a launch element with HashAlg 0x000B that names the digest.

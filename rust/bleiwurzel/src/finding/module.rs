@@ -1,9 +1,24 @@
 //! Rules 6 to 11: the SINIT module's place, header, GDT, information table and chipset list.
 
-use super::{bytes_of, fail, field, heap, need, number, spaced, Finding, Step};
-use crate::{Platform, MOST_CHIPSETS, PAGE_SIZE};
+use super::{bytes_of, fail, field, heap, need, number, on_a_page, spaced, Finding, Length, Step};
+use crate::text::bytes;
+use crate::{Platform, MOST_CHIPSETS, MOST_MODULE, PAGE_SIZE};
 
 const UUID: [u8; 16] = [0xaa, 0x3a, 0xc0, 0x7f, 0xa7, 0x46, 0xdb, 0x18, 0x2e, 0xac, 0x69, 0x8f, 0x8d, 0x41, 0x7f, 0x5a];
+
+/// The bytes of a module's header that rule 7 reads.
+pub const HEADER_LENGTH: u64 = 128;
+/// Where in it the module's size stands, in units of 4 bytes.
+const SIZE: u64 = 24;
+
+/// The one length with which a module that begins like this passes rule 7; 0 where no length does.
+pub fn only_length(module: &[u8]) -> u64 {
+    fixed_fields(module).map_or(0, |()| stated_length(module))
+}
+
+fn stated_length(module: &[u8]) -> u64 {
+    4 * field(module, SIZE, 4)
+}
 
 /// What later rules ask of the module.
 pub struct Module {
@@ -21,8 +36,8 @@ impl Module {
     }
 }
 
-pub fn read(sinit: &[u8], platform: &Platform) -> Step<Module> {
-    place(sinit, platform)?;
+pub fn read(sinit: &[u8], length: &Length, platform: &Platform) -> Step<Module> {
+    place(length, platform)?;
     header(sinit)?;
     let table = 4 * field(sinit, 4, 4) + 4 * field(sinit, 124, 4);
     entry(sinit, table)?;
@@ -37,24 +52,25 @@ pub fn read(sinit: &[u8], platform: &Platform) -> Step<Module> {
     })
 }
 
-fn place(sinit: &[u8], platform: &Platform) -> Step<()> {
+fn place(length: &Length, platform: &Platform) -> Step<()> {
     let base = platform.sinit_base;
-    let length = sinit.len() as u64;
-    let bytes = format!("{length} bytes");
     let of_module = "length of the SINIT module";
-    need(base % PAGE_SIZE == 0, 6, "SINIT base of the platform", "a multiple of 4096 (0x1000)", format!("{base:#x}"))?;
+    need(base % PAGE_SIZE == 0, 6, "SINIT base of the platform", on_a_page(), format!("{base:#x}"))?;
     let capacity = platform.acram_capacity;
-    let expected = format!("at most {capacity} bytes, the platform's ACRAM capacity");
-    let more = if length == capacity.saturating_add(1) { " or more" } else { "" };
-    need(length <= capacity, 6, of_module, expected, format!("{bytes}{more}"))?;
-    let end = u128::from(base) + u128::from(length);
-    let found = format!("{base:#x} + {length:#x} = {end:#x}");
-    need(end <= 0xffff_ffff, 6, "end of the SINIT module: SINIT base plus its length", "at most 2^32 - 1 (0xffffffff)", found)?;
-    need(length >= 704, 6, of_module, "at least 704 bytes", bytes.as_str())?;
-    need(length % 64 == 0, 6, of_module, "a multiple of 64", format!("{bytes}, {} too many", length % 64))
+    let expected = format!("at most {}, the platform's ACRAM capacity", bytes(capacity));
+    need(length.bytes <= capacity, 6, of_module, expected, length.to_string())?;
+    let end = u128::from(base) + u128::from(length.bytes);
+    let of_end = "end of the SINIT module: SINIT base plus its length";
+    let expected = format!("at most 2^32 - 1 ({MOST_MODULE:#x})");
+    let found = format!("{base:#x} + {:#x} = {end:#x}", length.bytes);
+    let most = u128::from(MOST_MODULE);
+    need(end <= most, 6, of_end, expected, found).map_err(|finding| if length.more { finding.or_more() } else { finding })?;
+    need(length.bytes >= 704, 6, of_module, "at least 704 bytes", length.to_string())?;
+    let rest = length.bytes % 64;
+    need(rest == 0, 6, of_module, "a multiple of 64", format!("{length}, {rest} too many"))
 }
 
-fn header(sinit: &[u8]) -> Step<()> {
+fn fixed_fields(sinit: &[u8]) -> Step<()> {
     for (name, at, width, value) in
         [("type", 0, 2, 2), ("vendor", 16, 4, 0x8086), ("version", 8, 4, 0), ("HeaderLen", 4, 4, 161), ("KeySize", 120, 4, 64)]
     {
@@ -62,13 +78,18 @@ fn header(sinit: &[u8]) -> Step<()> {
         let place = format!("{name} in the module's header (module offset {at:#x})");
         need(found == value, 7, place, format!("{value} ({value:#x})"), format!("{found} ({found:#x})"))?;
     }
-    let size = field(sinit, 24, 4);
+    Ok(())
+}
+
+fn header(sinit: &[u8]) -> Step<()> {
+    fixed_fields(sinit)?;
+    let (length, stated) = (sinit.len() as u64, stated_length(sinit));
     need(
-        4 * size == sinit.len() as u64,
+        stated == length,
         7,
-        "size in the module's header (module offset 0x18)",
-        format!("{}, a fourth of the module's {} bytes", sinit.len() / 4, sinit.len()),
-        format!("{size}, which makes {} bytes", 4 * size),
+        format!("size in the module's header (module offset {SIZE:#x})"),
+        format!("{}, a fourth of the module's {}", length / 4, bytes(length)),
+        format!("{}, which makes {}", stated / 4, bytes(stated)),
     )
 }
 

@@ -1,7 +1,7 @@
 //! Rules 14 to 20: the walk through the page tables, level by level.
 
 use super::heap::{OsSinitData, Range};
-use super::{field, need, Step};
+use super::{field, need, on_a_page, Step};
 use crate::{Parts, Platform, MOST_TABLES, PAGE_SIZE};
 
 const ADDRESS: u64 = 0x000f_ffff_ffff_f000;
@@ -21,7 +21,7 @@ impl Memory {
         Memory {
             window: range(platform.window_base, parts.window.len()),
             forbidden: [
-                ("the hole 0xa0000 to 0xfffff", Range { base: 0xa0000, size: 0x60000 }),
+                ("the hole below 1 MiB", Range { base: 0xa0000, size: 0x60000 }),
                 ("the heap", range(platform.heap_base, parts.heap.len())),
                 ("the SINIT module", range(platform.sinit_base, parts.sinit.len())),
             ],
@@ -91,7 +91,7 @@ struct Walk<'a> {
 
 pub fn walk(window: &[u8], memory: &Memory, base: u64) -> Step<Mapped> {
     let place = memory.base_place.as_str();
-    need(base % PAGE_SIZE == 0, 14, place, "a multiple of 4096 (0x1000)", format!("{base:#x}"))?;
+    need(base % PAGE_SIZE == 0, 14, place, on_a_page(), format!("{base:#x}"))?;
     let mut walk = Walk { window, memory, last: base, tables: 1 };
     walk.inside(base, || place.to_string())?;
     walk.clear(base, || place.to_string())?;
@@ -154,11 +154,11 @@ impl Walk<'_> {
 
     fn inside(&self, address: u64, place: impl Fn() -> String) -> Step<()> {
         let window = &self.memory.window;
-        let fits = address >= window.base && u128::from(address) + u128::from(PAGE_SIZE) <= window.end();
-        if fits {
+        let page = page_at(address);
+        if page.base >= window.base && page.end() <= window.end() {
             return Ok(());
         }
-        need(false, 15, place(), format!("4096 bytes inside the window, {}", shown(window)), format!("{address:#x}"))
+        need(false, 15, place(), format!("{PAGE_SIZE} bytes inside the window, {}", shown(window)), shown(&page))
     }
 
     fn above(&self, address: u64, place: impl Fn() -> String) -> Step<()> {
@@ -176,26 +176,30 @@ impl Walk<'_> {
 
     fn clear(&self, address: u64, place: impl Fn() -> String) -> Step<()> {
         for (name, range) in &self.memory.forbidden {
-            let begin = u128::from(address.max(range.base));
-            let end = (u128::from(address) + u128::from(PAGE_SIZE)).min(range.end());
-            if begin < end {
+            let page = page_at(address);
+            let begin = u128::from(page.base.max(range.base));
+            if begin < page.end().min(range.end()) {
                 let expected = format!("clear of {name}, {}", shown(range));
-                return need(false, 17, place(), expected, format!("{address:#x} to {:#x}", address + PAGE_SIZE - 1));
+                return need(false, 17, place(), expected, shown(&page));
             }
         }
         Ok(())
     }
 
     fn protected(&self, address: u64, place: impl Fn() -> String) -> Step<()> {
-        let end = u128::from(address) + u128::from(PAGE_SIZE);
-        let holds = |range: &Range| address >= range.base && end <= range.end();
+        let page = page_at(address);
+        let holds = |range: &Range| page.base >= range.base && page.end() <= range.end();
         if self.memory.regions.iter().any(|(_, range)| holds(range)) {
             return Ok(());
         }
         let regions: Vec<String> = self.memory.regions.iter().map(|(name, range)| format!("{name} ({})", shown(range))).collect();
         let expected = format!("wholly in one of {}", regions.join(", "));
-        need(false, 20, place(), expected, format!("page {address:#x} to {:#x}", address + PAGE_SIZE - 1))
+        need(false, 20, place(), expected, format!("page {}", shown(&page)))
     }
+}
+
+fn page_at(address: u64) -> Range {
+    Range { base: address, size: PAGE_SIZE }
 }
 
 fn shown(range: &Range) -> String {

@@ -1,0 +1,48 @@
+-- `output-fits`: the bytes that a program lends for the output suffice for every answer with at most 4,096 pages.
+use Prim.Native.Nat.{ℕ, zero, suc, _+_, _/_, _%_, _≤_}
+use mathlib.Core.Logic.{_⊎_, ⊎-elim}
+use mathlib.Core.Bool.{Bool, true, false, cond}
+use mathlib.Core.List.{List, [], _∷_, _++_}
+use native.Mathlib.Omega.{arith}
+use lib.Dec.{ltb, eqb}
+use lib.ListN.{length, take, length-append, length-take}
+use Rattle.launch.specs.declared.Answer.{Answer}
+use Rattle.answer_text.specs.Text.{LF, digit, digits, mostDigits, decimal, listText, permittedLine, refusedLine, firstLine, pageLines, shownPages, lentPlaces, output, OutputFits}
+use Rattle.answer_text.proofs.Written.{lines-length}
+
+digits-most : (most n : ℕ) → length (digits most n) ≤ most
+unfolding digits
+digits-most zero n = omega arith
+digits-most (suc most) n = by (ltb n 10) (digits-most most (n / 10))
+  where
+    by : (t : Bool) → length (digits most (n / 10)) ≤ most → length (cond t (digit n ∷ []) (digits most (n / 10) ++ (digit (n % 10) ∷ []))) ≤ suc most
+    by true h = omega arith
+    by false h = omega (arith, length-append (digits most (n / 10)) (digit (n % 10) ∷ []))
+
+module _ (a : Answer) (places : List ℕ) where
+  first-most : length (firstLine a) ≤ 48
+  unfolding firstLine
+  first-most = by (eqb (a .number) 0)
+    where
+      by : (t : Bool) → length (cond t (permittedLine a) (refusedLine a)) ≤ 48
+      by true =
+          let pages : length (decimal (a .pages) ++ listText) ≤ 16 =
+          omega (arith, length-append (decimal (a .pages)) listText, digits-most mostDigits (a .pages)) in
+          let list : length (decimal (a .pages) ++ listText ++ decimal (a .list)) ≤ 26 =
+          omega (arith, length-append (decimal (a .pages) ++ listText) (decimal (a .list)), digits-most mostDigits (a .list)) in
+          omega (arith, length-append (decimal (a .pages) ++ listText ++ decimal (a .list)) (LF ∷ []))
+      by false = omega (arith, length-append (decimal (a .number)) (LF ∷ []), digits-most mostDigits (a .number))
+
+  shown-most : (a .pages ≤ lentPlaces) ⊎ (length places ≤ lentPlaces) → length (shownPages a places) ≤ lentPlaces
+  unfolding shownPages
+  shown-most h = by (eqb (a .number) 0)
+    where
+      by : (t : Bool) → length (cond t (take (a .pages) places) []) ≤ lentPlaces
+      by true = ⊎-elim (λ l. omega (arith, length-take (a .pages) places)) (λ l. omega (arith, length-take (a .pages) places)) h
+      by false = omega arith
+
+pub output-fits : OutputFits
+unfolding output
+output-fits a places h =
+    let lines = pageLines (shownPages a places) in
+    omega (arith, length-append (firstLine a) lines, first-most a places, lines-length (shownPages a places), shown-most a places h)

@@ -1,0 +1,90 @@
+//! The file of a SINIT module, which is held in memory only as far as it can matter. The module's header says how long the module is; where it
+//! is of another length, or the header is wrong, rule 6 or 7 refuses it whatever follows. So what follows is counted and not held.
+
+use super::{files, Misuse};
+use bleiwurzel::finding::{only_length, Length, HEADER_LENGTH};
+use bleiwurzel::{Platform, MOST_MODULE};
+use std::ffi::OsStr;
+use std::io::{self, Read};
+
+/// No module is longer than this on the platform.
+pub fn most(platform: &Platform) -> u64 {
+    platform.acram_capacity.min(MOST_MODULE)
+}
+
+/// The module, read up to `most` bytes and one more. Where there are more, none are held: rule 6 refuses a module of that length as it does
+/// one of no bytes, and the rules before it do not look at the module.
+pub fn read(path: &OsStr, most: u64, what: &str, help: &'static str) -> Result<files::Contents, Misuse> {
+    let read = files::open(path).and_then(|file| bounded(file, most));
+    read.or_else(|error| files::unreadable(path, &error, what, help))
+}
+
+fn bounded(file: impl Read, most: u64) -> io::Result<files::Contents> {
+    let mut file = file.take(most.saturating_add(1));
+    let mut bytes = Vec::new();
+    file.by_ref().take(HEADER_LENGTH).read_to_end(&mut bytes)?;
+    let left = only_length(&bytes).saturating_sub(bytes.len() as u64);
+    file.by_ref().take(left).read_to_end(&mut bytes)?;
+    let held = bytes.len() as u64;
+    let length = held + io::copy(&mut file, &mut io::sink())?;
+    if length > most {
+        return Ok(files::Contents { bytes: Vec::new(), length: Length { bytes: length, more: true } });
+    }
+    // The length alone matters of what was not held.
+    bytes.resize(length as usize, 0);
+    Ok(files::Contents { bytes, length: Length { bytes: length, more: false } })
+}
+
+#[cfg(test)]
+mod tests {
+    use super::*;
+
+    /// A module of so many bytes with a header that rule 7 lets pass, as far as there is room for it, which states `stated` bytes.
+    fn module(bytes: usize, stated: u32) -> Vec<u8> {
+        let mut module: Vec<u8> = (0..bytes).map(|i| i as u8 | 1).collect();
+        for (at, number) in [(0, 2), (4, 161), (8, 0), (16, 0x8086), (24, stated / 4), (120, 64)] {
+            let width = if at == 0 { 2 } else { 4 };
+            if let Some(field) = module.get_mut(at..at + width) {
+                field.copy_from_slice(&number.to_le_bytes()[..width]);
+            }
+        }
+        module
+    }
+
+    fn read(module: &[u8], most: u64) -> (Vec<u8>, u64, bool) {
+        let contents = bounded(module, most).expect("memory is read");
+        (contents.bytes, contents.length.bytes, contents.length.more)
+    }
+
+    #[test]
+    fn a_module_is_held_as_it_is() {
+        for bytes in [0, 1, 27, 28, 127, 128, 132, 704, 4096] {
+            let module = module(bytes, bytes as u32);
+            assert_eq!(read(&module, 4096), (module, bytes as u64, false), "{bytes}");
+        }
+    }
+
+    #[test]
+    fn what_follows_the_only_length_is_counted() {
+        let module = module(1024, 704);
+        let (bytes, length, more) = read(&module, 4096);
+        assert_eq!((&bytes[..704], &bytes[704..], length, more), (&module[..704], &[0; 320][..], 1024, false));
+    }
+
+    #[test]
+    fn behind_a_wrong_header_nothing_is_held() {
+        let mut module = module(1024, 1024);
+        module[0] = 3;
+        let (bytes, length, _) = read(&module, 4096);
+        assert_eq!((&bytes[..128], &bytes[128..], length), (&module[..128], &[0; 896][..], 1024));
+    }
+
+    #[test]
+    fn past_the_most_nothing_is_held() {
+        assert_eq!(read(&module(704, 704), 703), (Vec::new(), 704, true));
+        assert_eq!(
+            bounded(io::repeat(0), 1 << 20).map(|read| (read.bytes, read.length.bytes)).ok(),
+            Some((Vec::new(), (1 << 20) + 1))
+        );
+    }
+}

@@ -1,0 +1,210 @@
+//! What a finding says: the exact field and offset, whole ranges, exact lengths, plain counts; and that it costs no more than it must.
+
+mod common;
+#[path = "common/tool.rs"]
+mod tool;
+
+use bleiwurzel::finding::{self, Finding};
+use bleiwurzel::{capture, policy, refusals, sha256, MOST_PAGES};
+use common::*;
+use std::time::{Duration, Instant};
+use tool::*;
+
+fn found(name: &str) -> Finding {
+    let bytes = std::fs::read(stored(name)).expect("a stored capture");
+    finding::first_in_capture(&bytes, MOST_PAGES).expect("a refusal")
+}
+
+/// Of an element with a wrong size, the size is named, which stands 4 bytes behind the type.
+#[test]
+fn the_offset_of_an_element_is_that_of_its_size() {
+    for name in ["04-P4-skipped-size-7.cap", "04-size-max.cap", "04-skipped-size-0.cap"] {
+        let finding = found(name);
+        assert!(finding.place.ends_with(&format!("size (heap offset {:#x})", ELEMENTS + 4)), "{name}: {}", finding.place);
+    }
+}
+
+#[test]
+fn a_page_outside_the_window_is_shown_whole() {
+    for (name, range) in
+        [("15-base-at-window-end.cap", "0x106000 to 0x106fff"), ("15-base-max.cap", "0xfffffffffffff000 to 0xffffffffffffffff")]
+    {
+        assert_eq!(found(name).found, range, "{name}");
+    }
+}
+
+#[test]
+fn the_hole_is_printed_once() {
+    let expected = found("17-hole-page-a0000.cap").expected;
+    assert_eq!(expected.matches("0xa0000").count(), 1, "{expected}");
+}
+
+/// A capture has its parts whole, so their lengths are exact; of a file that was read up to its limit there may be more.
+#[test]
+fn lengths_are_exact_where_they_are_known() {
+    let mut image = image(&Shape::default());
+    image.record.push(0);
+    let whole = capture::make(&image.parts(), &image.platform).expect("a capture");
+    assert_eq!(finding::find_in_capture(23, &whole, MOST_PAGES).map(|finding| finding.found), Some("71 bytes".to_string()));
+    let folder = folder("lengths_are_exact");
+    let words = written(&folder, &image);
+    assert!(run_with(&["check"], &words, &[]).out.contains("\n  found     71 bytes or more\n"));
+    let long = |length: usize| finding::find_in_policy(26, &vec![0; length]).map(|finding| finding.found);
+    assert_eq!((long(65_537), long(1)), (Some("65537 bytes".to_string()), Some("1 byte".to_string())));
+    assert_eq!(finding::first_in_capture(&vec![0; 70_000], 0).map(|finding| finding.found), Some("70000 bytes".to_string()));
+}
+
+/// Every text of a finding about the stored captures, and about stored policy files that are cut off anywhere.
+fn all_texts() -> Vec<String> {
+    let mut findings: Vec<Finding> =
+        captures().iter().filter_map(|(_, bytes)| finding::first_in_capture(bytes, MOST_PAGES)).collect();
+    findings.extend((0..=76).filter_map(|length| finding::first_in_capture(&captures()[0].1[..length], MOST_PAGES)));
+    for name in ["three-0x201.data", "signed2048-0x200.data"] {
+        let file = std::fs::read(top().join("crates/policy_show/data").join(name)).expect("a policy file");
+        findings.extend((0..file.len()).filter_map(|length| {
+            policy::read(&file[..length]).err().and_then(|refusal| finding::find_in_policy(refusal.number, &file[..length]))
+        }));
+        let more = [&file[..], &[0]].concat();
+        findings.extend(finding::find_in_policy(27, &more));
+    }
+    findings
+        .into_iter()
+        .flat_map(|finding| [finding.place, finding.expected, finding.found].into_iter().chain(finding.notes))
+        .collect()
+}
+
+#[test]
+fn one_is_not_many() {
+    let texts = all_texts();
+    assert!(texts.iter().any(|text| text.contains("1 byte left")), "no text has one byte");
+    for text in texts {
+        let words: Vec<&str> = text.split_whitespace().collect();
+        let many = words
+            .windows(2)
+            .find(|two| two[0] == "1" && ["bytes", "pages", "places", "digests"].contains(&two[1].trim_end_matches(',')));
+        assert_eq!(many, None, "{text}");
+    }
+}
+
+/// What is found for 22 and 23, by the field; each has a line for who stands at the rack.
+#[test]
+fn every_field_of_22_and_23_has_a_line_for_the_rack() {
+    for (number, fields) in [
+        (22, &["MLE header base", "HeaderLen", "UUID", "version", "EntryPoint", "FirstValidPage", "MleEnd"][..]),
+        (23, &["HashAlg"]),
+    ] {
+        let lines = refusals::text(number).expect("a text").technician;
+        for field in fields {
+            assert!(lines.iter().any(|line| line.starts_with("If ") && line.contains(field)), "{number}: no line for {field}");
+        }
+    }
+}
+
+#[test]
+fn no_command_advises_itself() {
+    let data = |name: &str| top().join("crates/policy_show/data").join(name).to_string_lossy().into_owned();
+    let short = folder("no_command_advises_itself").join("short").to_string_lossy().into_owned();
+    std::fs::write(&short, b"Intel").expect("a short file");
+    let calls = [["policy", &data("27-list-sigalg-0015.pol")], ["policy", &short]];
+    for [command, file] in calls {
+        for json in [&[][..], &["--json"]] {
+            let ran = run(&[&[command, file][..], json].concat());
+            assert_eq!(ran.status, REFUSED);
+            let words = ran.out.split_whitespace().collect::<Vec<_>>().join(" ");
+            assert!(!words.contains("bleiwurzel policy FILE"), "{words}");
+            assert!(words.contains("from the store again") || words.contains("copy it again"), "it leads to nothing: {words}");
+        }
+    }
+    let ran = run(&["capture", "show", &stored("30-74-bytes.cap")]);
+    assert!(!ran.out.contains("capture show") && ran.out.contains("Copy the file again"), "{}", ran.out);
+}
+
+/// The largest image, and the same under a LIST policy that does not name it.
+fn large() -> [Image; 2] {
+    let image = image(&Shape { pages: MOST_PAGES, ..Shape::default() });
+    let unnamed = with_lists(&image, &[list(&[launch(0, &[[0; 32]])])]);
+    [image, unnamed]
+}
+
+/// The digest that a finding for 29 shows is worked out once; twice would take two times as long as one digest of the image.
+#[test]
+fn the_finding_for_29_hashes_the_image_once() {
+    let [_, image] = large();
+    let parts = image.parts();
+    let begin = image.offset(image.listed[0]);
+    let pages = &image.window[begin..begin + MOST_PAGES * PAGE];
+    let mut best = [Duration::MAX; 2];
+    for _ in 0..5 {
+        let began = Instant::now();
+        let digest = sha256(pages);
+        best[0] = best[0].min(began.elapsed());
+        let began = Instant::now();
+        let finding = finding::find(29, &parts, &image.platform, MOST_PAGES).expect("a finding");
+        best[1] = best[1].min(began.elapsed());
+        assert!(finding.expected.ends_with(&bleiwurzel::text::digits(&digest)), "{}", finding.expected);
+    }
+    assert!(best[1] < best[0].mul_f64(1.5), "one digest takes {:?}, the finding {:?}", best[0], best[1]);
+}
+
+/// The finding for 29 reads the image where it stands: the refusal needs no more memory than a permission, but for a fourth of the image.
+#[test]
+fn the_finding_for_29_does_not_copy_the_image() {
+    let folder = folder("does_not_copy");
+    let [permitted, refused] = large().map(|image| {
+        let folder = folder.join(image.window.len().to_string());
+        std::fs::create_dir_all(&folder).expect("a folder");
+        written(&folder, &image)
+    });
+    let within = |kibibytes: usize, words: &[String]| {
+        let script = format!("ulimit -c 0; ulimit -v {kibibytes}; exec \"$0\" check \"$@\"");
+        in_bash(&script, words).status.code()
+    };
+    let spare = MOST_PAGES * PAGE / 1024 / 4;
+    let enough =
+        (1..64).map(|n| n * spare).find(|limit| within(*limit, &permitted) == Some(OK)).expect("memory for a permission");
+    assert_eq!(within(enough + spare, &refused), Some(REFUSED), "{enough} KiB are enough for a permission");
+}
+
+/// A module without end, on a platform that would take any: it is refused within an address space that could not hold it.
+#[test]
+fn a_module_without_end_is_not_held() {
+    let folder = folder("a_module_without_end");
+    let mut words = written(&folder, &image(&Shape::default()));
+    words[5] = "/dev/zero".to_string();
+    let (small, large) = ("1048577 bytes or more", "0x20000000 + 0x100000000 = 0x120000000 or more");
+    for (capacity, found) in [("0x100000", small), ("0xffffffffffffffff", large)] {
+        let words: Vec<&str> = words.iter().map(String::as_str).chain(["--acram-capacity", capacity]).collect();
+        let ran = ran(in_bash("ulimit -v 400000; exec \"$0\" check \"$@\"", &words));
+        assert_eq!((ran.status, ran.err.as_str()), (REFUSED, ""), "{capacity}");
+        assert!(ran.out.starts_with("refused 6, "), "{capacity}: {}", ran.out);
+        assert!(ran.out.contains(&format!("found     {found}\n")), "{capacity}: {}", ran.out);
+    }
+}
+
+/// What of a module is not held does not matter: the number is that of the library over all its bytes, and a rule before the module's comes first.
+#[test]
+fn the_answer_is_that_of_the_whole_module() {
+    let folder = folder("the_whole_module");
+    let good = image(&Shape::default());
+    let cases: [(&str, fn(&mut Image), u32); 7] = [
+        ("as it is", |_| (), 0),
+        ("64 bytes more", |image| image.sinit.extend([0xa5; 64]), 7),
+        ("1 byte more", |image| image.sinit.push(0xa5), 6),
+        ("a smaller size in the header", |image| put(&mut image.sinit, 24, 1, 4), 7),
+        ("a larger size in the header", |image| put(&mut image.sinit, 24, 0xffff_ffff, 4), 7),
+        ("100 bytes", |image| image.sinit.truncate(100), 6),
+        ("no bytes", |image| image.sinit.clear(), 6),
+    ];
+    for (name, change, number) in cases {
+        let mut image = good.clone();
+        change(&mut image);
+        let given = bleiwurzel::answer(&image.parts(), &image.platform, &mut vec![0; MOST_PAGES]).number;
+        assert_eq!(given, number, "{name}");
+        let ran = run_with(&["check"], &written(&folder, &image), &["--json"]);
+        assert!(ran.out.contains(&format!("\"number\": {number},")), "{name}: {}", ran.out);
+    }
+    let mut words = written(&folder, &good);
+    words[5] = "/dev/zero".to_string();
+    let ran = run_with(&["check"], &words, &["--window-base", "1"]);
+    assert!(ran.out.starts_with("refused 1, "), "{}", ran.out);
+}

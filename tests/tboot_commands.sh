@@ -1,0 +1,104 @@
+#!/usr/bin/env bash
+# Runs every command line of tboot's tools that docs/REFUSALS.md recommends, as it stands there, and has the tool check an image under
+# each policy that they make. Where tboot's tools (Debian's package tboot) are not installed it says so and passes over.
+set -euo pipefail
+PATH=$PATH:/usr/sbin
+top=$(cd "$(dirname "$0")/.." && pwd)
+for name in lcp2_crtpolelt lcp2_crtpollist lcp2_crtpol; do
+    if ! command -v "$name" >/dev/null; then
+        echo "passed over: there is no $name (Debian's package tboot), so the command lines of docs/REFUSALS.md were not run"
+        exit 0
+    fi
+done
+cargo build --release --offline --quiet --manifest-path "$top/rust/Cargo.toml" -p bleiwurzel
+bleiwurzel=$top/rust/target/release/bleiwurzel
+capture=$top/examples/any.cap
+folder=$(mktemp -d)
+trap 'rm -rf "$folder"' EXIT
+cd "$folder"
+
+fail() {
+    echo "tboot_commands: $1" >&2
+    exit 1
+}
+
+# part NAME FILE: a part of the capture.
+part() {
+    local length at
+    read -r length at < <("$bleiwurzel" capture show "$capture" | sed -nE "s/^# $1 +([0-9]+) bytes at file offset ([0-9]+)$/\1 \2/p")
+    dd if="$capture" of="$2" bs=1 skip="$at" count="$length" status=none
+}
+
+# number FILE OFFSET VALUE: writes 64 bits.
+number() {
+    local i
+    for i in 0 1 2 3 4 5 6 7; do printf '%b' "\\x$(printf %02x $(($3 >> 8 * i & 255)))"; done | dd of="$1" bs=1 seek="$2" conv=notrunc status=none
+}
+
+# check MODULE: the tool's answer for the image with record.pol and policy.data, which is loaded behind the image.
+check() {
+    local base
+    base=$("$bleiwurzel" capture show "$capture" | sed -n 's/^window_base = //p')
+    cat window.bin policy.data >loaded.bin
+    number heap.bin 88 $((base + $(stat -c %s window.bin)))
+    number heap.bin 96 "$(stat -c %s policy.data)"
+    "$bleiwurzel" check --window loaded.bin --heap heap.bin --sinit "$1" --policy-record record.pol --platform platform.txt || true
+}
+
+# expect MODULE ANSWER COMMAND: that the answer begins so.
+expect() {
+    local answer
+    answer=$(check "$1" | tr -s '\n ' '  ')
+    [[ $answer == "$2"* ]] || fail "'$2' was expected with $1 after: $3"$'\n'"$answer"
+}
+
+# commands NAME: the command lines on the page that begin with this.
+commands() {
+    grep -o '`[^`]*`' "$top/docs/REFUSALS.md" | tr -d '`' | grep "^$1 " | sort -u
+}
+
+# run NAME: runs them.
+run() {
+    local line lines
+    lines=$(commands "$1") || fail "the page has no command line of $1"
+    while IFS= read -r line; do
+        echo "+ $line"
+        bash -euc "${line/DIGEST/$digest}" || fail "refused by the tool: $line"
+        [[ $1 != lcp2_crtpol ]] || judge "$line"
+    done <<<"$lines"
+}
+
+# judge COMMAND: the record that it made permits the image; a debug module only where control bit 1 was asked for.
+judge() {
+    [ "$(stat -c %s record.pol)" -eq 70 ] || fail "the record has not 70 bytes after: $1"
+    expect sinit.bin permitted "$1"
+    if [[ $1 == *--ctrl\ 0x02* ]]; then expect debug.bin permitted "$1"; else expect debug.bin "refused 24" "$1"; fi
+}
+
+part window window.bin
+part heap heap.bin
+part "SINIT module" sinit.bin
+"$bleiwurzel" capture show "$capture" >platform.txt
+cp sinit.bin debug.bin
+printf '\x80' | dd of=debug.bin bs=1 seek=15 conv=notrunc status=none
+digest=$("$bleiwurzel" check --capture "$capture" | sed -n 's/^  digest  //p')
+
+run echo
+run lcp2_crtpolelt
+run lcp2_crtpollist
+: >policy.data
+run lcp2_crtpol
+
+# What the page says of other elements: a legacy one does not permit, nor does a list with a custom element of tboot's.
+again=$(commands lcp2_crtpol | grep -- '--type list --alg')
+head -c 20 /dev/zero | od -An -v -w20 -tx1 | sed 's/^ //' >sha1.txt
+lcp2_crtpolelt --create --type mle --out legacy.elt sha1.txt
+lcp2_crtpollist --create --listver 0x201 --out policy.lst legacy.elt
+bash -euc "$again"
+expect sinit.bin "refused 29" "an element of type mle"
+lcp2_crtpolelt --create --type custom --uuid tboot --out custom.elt sha1.txt
+lcp2_crtpollist --create --listver 0x201 --out policy.lst mle.elt custom.elt
+bash -euc "$again"
+expect sinit.bin "refused 29" "a list with an element of type custom"
+"$bleiwurzel" policy policy.data | grep -q "type: 'custom' (0x13)" || fail "tboot's custom element has another type"
+echo "every command line of tboot's tools in docs/REFUSALS.md was run"

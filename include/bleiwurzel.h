@@ -155,6 +155,20 @@ uint32_t bleiwurzel_check(const uint8_t *window, size_t window_length, const uin
 uint32_t bleiwurzel_check_capture(const uint8_t *capture, size_t capture_length, uint64_t *pages, size_t places, uint32_t counts[2],
                                   uint8_t digest[32]);
 
+/*
+ * bleiwurzel_check, which also hands out the digest of the pages where no list permits them (29), so that it can be put into a list without
+ * hashing the image again.
+ *
+ * Lent for reading: as by bleiwurzel_check. Written: as by bleiwurzel_check, so that digest gets 32 zeros on 29 too. measurement always: the
+ * digest of the pages on 0 and on 29, 32 zeros on every other refusal.
+ * Answers 0 to 29; never 30.
+ */
+uint32_t bleiwurzel_check_measured(const uint8_t *window, size_t window_length, const uint8_t *heap, size_t heap_length,
+                                   const uint8_t *sinit, size_t sinit_length, const uint8_t *record, size_t record_length,
+                                   uint64_t window_base, uint64_t heap_base, uint64_t sinit_base, uint64_t dpr_base, uint64_t dpr_size,
+                                   uint64_t acram_capacity, uint16_t vendor, uint16_t device, uint16_t revision, uint64_t *pages,
+                                   size_t places, uint32_t counts[2], uint8_t digest[32], uint8_t measurement[32]);
+
 /* ---- The reader of policy files ----------------------------------------------------------------------------------------------------- */
 
 /*

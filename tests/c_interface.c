@@ -65,6 +65,40 @@ static void captures(void)
     NEED(a.number == BLEIWURZEL_PERMITTED && a.pages == 2 && list[0] == 0x104000 && list[1] == 0x105000);
 }
 
+/* bleiwurzel_check_measured, for a page list of two places. */
+static uint32_t measured(uint8_t digest[32], uint8_t measurement[32])
+{
+    uint64_t list[2];
+    uint32_t counts[2];
+    return bleiwurzel_check_measured(window, sizeof window, heap, sizeof heap, sinit, sizeof sinit, record, sizeof record,
+                                     platform.window_base, platform.heap_base, platform.sinit_base, platform.dpr_base, platform.dpr_size,
+                                     platform.acram_capacity, platform.vendor, platform.device, platform.revision, list, 2, counts, digest,
+                                     measurement);
+}
+
+static void measurements(void)
+{
+    static const uint8_t zeros[32];
+    uint8_t digest[32], measurement[32], expected[32];
+    bleiwurzel_sha256(window + 4 * PAGE, 2 * PAGE, expected);
+    NEED(measured(digest, measurement) == BLEIWURZEL_PERMITTED);
+    NEED(memcmp(digest, expected, 32) == 0 && memcmp(measurement, expected, 32) == 0);
+    /* a LIST policy, whose file has one list without elements */
+    put_bytes(window, "Intel(R) TXT LCP_POLICY_DATA", 28);
+    put(window + 35, 1, 1);
+    put(window + 36, 0x00100201, 4);
+    put(heap + 24 + 64, BASE, 8);
+    put(heap + 24 + 72, 44, 8);
+    put(record + 4, 0, 1);
+    NEED(measured(digest, measurement) == BLEIWURZEL_POLICY_HASH);
+    NEED(memcmp(digest, zeros, 32) == 0 && memcmp(measurement, zeros, 32) == 0);
+    uint8_t of_list[32];
+    bleiwurzel_sha256(window + 36, 8, of_list);
+    bleiwurzel_sha256(of_list, 32, record + 38);
+    NEED(measured(digest, measurement) == BLEIWURZEL_NO_LIST);
+    NEED(memcmp(digest, zeros, 32) == 0 && memcmp(measurement, expected, 32) == 0);
+}
+
 static void policies(void)
 {
     static uint8_t file[36 + 8 + 50 + 13 + 8 + 4 + 512];
@@ -126,6 +160,7 @@ int main(void)
     digests();
     launches();
     captures();
+    measurements();
     policies();
     (void)example_main;
     return wrong;

@@ -5,7 +5,7 @@ use mathlib.Core.List.{List, [], _∷_}
 use Rattle.launch.specs.declared.Platform.{Platform}
 use Rattle.launch.specs.declared.Answer.{Answer}
 use Rattle.launch.specs.Rules.{Input}
-use Rattle.launch.specs.Answer.{answerOf, placesOf}
+use Rattle.launch.specs.Answer.{answerOf, placesOf, measurementOf}
 
 abbrev pub platformOf : ℕ → ℕ → ℕ → ℕ → ℕ → ℕ → ℕ → ℕ → ℕ → Platform
 platformOf window heap sinit dpr dprSize capacity vendor device revision =
@@ -36,3 +36,8 @@ pub record Given (answer : Answer) (places : List ℕ) (result : ℕ) (pages : L
 -- the same for the answer of the check, where the page list held `listed` before
 abbrev pub GivenFor : Input → List ℕ → ℕ → List ℕ → List ℕ → List ℕ → Type 0
 GivenFor input listed = Given (answerOf input) (placesOf input listed)
+
+-- and the measurement in a further array
+abbrev pub MeasuredFor : Input → List ℕ → ℕ → List ℕ → List ℕ → List ℕ → List ℕ → Type 0
+MeasuredFor input listed result pages counts digest measurement =
+    GivenFor input listed result pages counts digest × (measurement ≡ measurementOf input)

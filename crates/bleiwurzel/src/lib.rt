@@ -7,7 +7,7 @@ ghost use lib.ListN.{length};
 ghost use Rattle.sha256.specs.Message.{sha256};
 ghost use Rattle.launch.specs.Rules.{inputOf};
 ghost use Rattle.capture.specs.Capture.{captureAnswer, capturePlaces};
-ghost use Rattle.bleiwurzel.specs.Scalars.{platformOf, Given, GivenFor};
+ghost use Rattle.bleiwurzel.specs.Scalars.{platformOf, Given, GivenFor, MeasuredFor};
 use launch::Platform;
 
 // Whether the next launch will succeed: the number. On permission the first places of `pages` hold the addresses of the pages. `counts` gets the
@@ -37,7 +37,12 @@ pub extern "C" fn bleiwurzel_check(
         (length (now (pages .entry))))
         (now (pages .entry)) r (now (pages .exit)) (now (counts .exit)) (now (digest .exit)) ⌝ }
 {
-    let platform = Platform {
+    let mut measurement = [0u8; 32];
+    bleiwurzel_check_measured(
+        window,
+        heap,
+        sinit,
+        record,
         window_base,
         heap_base,
         sinit_base,
@@ -47,8 +52,52 @@ pub extern "C" fn bleiwurzel_check(
         vendor,
         device,
         revision,
+        pages,
+        counts,
+        digest,
+        &mut measurement,
+    )
+}
+
+// The same, and `measurement` gets the digest of the pages, on 29 too, and zeros on every other refusal.
+#[no_mangle]
+pub extern "C" fn bleiwurzel_check_measured(
+    window: &[u8],
+    heap: &[u8],
+    sinit: &[u8],
+    record: &[u8],
+    window_base: u64,
+    heap_base: u64,
+    sinit_base: u64,
+    dpr_base: u64,
+    dpr_size: u64,
+    acram_capacity: u64,
+    vendor: u16,
+    device: u16,
+    revision: u16,
+    pages: &mut [u64],
+    counts: &mut [u32; 2],
+    digest: &mut [u8; 32],
+    measurement: &mut [u8; 32],
+) -> u32
+    ensures { λ r. ⌜ MeasuredFor
+        (inputOf (now (window .entry)) (now (heap .entry)) (now (sinit .entry)) (now («record» .entry))
+        (platformOf «window_base» «heap_base» «sinit_base» «dpr_base» «dpr_size» «acram_capacity» vendor device revision)
+        (length (now (pages .entry))))
+        (now (pages .entry)) r (now (pages .exit)) (now (counts .exit)) (now (digest .exit)) (now (measurement .exit)) ⌝ }
+{
+    let platform = Platform {
+        window_base: window_base,
+        heap_base: heap_base,
+        sinit_base: sinit_base,
+        dpr_base: dpr_base,
+        dpr_size: dpr_size,
+        acram_capacity: acram_capacity,
+        vendor: vendor,
+        device: device,
+        revision: revision,
     };
-    let a = launch::check(window, heap, sinit, record, platform, pages);
+    let a = launch::check_measured(window, heap, sinit, record, platform, pages, measurement);
     let two = [a.pages, a.list];
     let sum = a.digest;
     *counts = two;
@@ -56,7 +105,7 @@ pub extern "C" fn bleiwurzel_check(
     a.number
 }
 
-// The same for a capture, with 30 for what is no capture.
+// The check for a capture, with 30 for what is no capture.
 #[no_mangle]
 pub extern "C" fn bleiwurzel_check_capture(
     capture: &[u8],

@@ -1,5 +1,5 @@
 -- What the policy decides, rules 23 to 29: what one group of rules makes of the outcome by all of them.
-use Prim.Native.Nat.{ℕ}
+use Prim.Native.Nat.{ℕ, _<_}
 use mathlib.Core.Path.{_≡_, refl, sym, _∙_}
 use mathlib.Core.Bool.{true, false, cond}
 use mathlib.Core.List.{List, [], _∷_, _++_}
@@ -8,7 +8,7 @@ use borrow.Author.Tests.{eq-eqb, ne-eqb}
 use lib.Dec.{lit<, eqb}
 use Rattle.field.specs.Number.{Bytes}
 use Rattle.rules.specs.Rules.{Rule, rule, all, firstFailing, answerBy}
-use Rattle.rules.proofs.Rules.{numbers-not-0}
+use Rattle.rules.proofs.Rules.{NumbersIn, numbers-not-0, number-most}
 use Rattle.rules.proofs.Tests.{_&_, fails}
 use Rattle.rules.proofs.Answers.{permits, rule-refuses, rule-passes, group-refuses, group-passes}
 use Rattle.mle.specs.Image.{imageDigest}
@@ -22,8 +22,15 @@ use Rattle.launch.specs.declared.Found.{Found}
 use Rattle.launch.specs.declared.Outcome.{Outcome}
 use Rattle.launch.specs.Rules.{policyFile, criteria, listRules}
 use Rattle.launch.specs.Answer.{listFor}
-use Rattle.launch.specs.Inner.{refusal, permissionWith, permission, fileStage, listStage, decideStage}
-use Rattle.launch.proofs.Order.{record-group}
+use Rattle.launch.specs.Inner.{refusalShowing, earlyRefusal, refusal, permissionWith, permission, fileStage, listStage, decideStage}
+use Rattle.launch.proofs.Order.{record-group, file-group}
+
+-- a refusal by rules whose numbers are below 29 shows nothing of the digest
+module _ (w : List ℕ) (f : Found) (a : Outcome) (least most : ℕ) (rs later : List Rule) (numbers : NumbersIn least most rs) (below : most < 29) (n : ℕ) where
+  pub early-refuses : 0 < n → firstFailing rs ≡ n → earlyRefusal n ≡ answerBy (refusal w f) a (rs ++ later)
+  early-refuses z e =
+      let nothing : earlyRefusal n ≡ refusal w f n = rw (ne-eqb n 29 (λ x. omega (arith, number-most least most rs numbers))) in
+      nothing ∙ group-refuses (refusal w f) a rs later n z e
 
 -- 29
 module _ (w file : List ℕ) (f : Found) where
@@ -39,17 +46,18 @@ module _ (w file : List ℕ) (f : Found) where
     listed : l ≡ lowest
     listed = rw is-digest at is-list
 
-    pub no-list : l ≡ noList → refusal 29 ≡ fileStage w file f
+    pub no-list : l ≡ noList → refusalShowing d 29 ≡ fileStage w file f
     unfolding fileStage
     no-list e =
-        rule-refuses refusal (permission w f lowest) 29 _ [] (lit< tt)
-        (sym (fails (reported-exactly file (criteria w f) b) (λ h. h (sym listed ∙ e))))
+        rw is-digest
+        (rule-refuses (refusal w f) (permission w f lowest) 29 _ [] (lit< tt)
+        (sym (fails (reported-exactly file (criteria w f) b) (λ h. h (sym listed ∙ e)))))
 
     pub a-list : (l ≡ noList → ⊥) → permissionWith f l d ≡ fileStage w file f
     unfolding fileStage
     a-list h =
         rw (is-digest, listed)
-        (permits refusal (permission w f lowest) last (rw (reported-exactly file (criteria w f) b .1 (λ e. h (listed ∙ e)))))
+        (permits (refusal w f) (permission w f lowest) last (rw (reported-exactly file (criteria w f) b .1 (λ e. h (listed ∙ e)))))
 
 module _ (w r : List ℕ) (f : Found) where
   -- 26 to 28
@@ -59,9 +67,9 @@ module _ (w r : List ℕ) (f : Found) where
   abbrev permitting : Outcome
   permitting = permission w f (lowest w file f)
 
-  pub not-placed : all (filePlaced w (f .«window_base») (f .«policy_file» .base) (f .«policy_file» .size)) ≡ false → refusal 26 ≡ listStage w r f
+  pub not-placed : all (filePlaced w (f .«window_base») (f .«policy_file» .base) (f .«policy_file» .size)) ≡ false → earlyRefusal 26 ≡ listStage w r f
   unfolding listStage
-  not-placed e = rule-refuses refusal permitting 26 _ (fileRules file r ++ last w file f) (lit< tt) e
+  not-placed e = rule-refuses (refusal w f) permitting 26 _ (fileRules file r ++ last w file f) (lit< tt) e
 
   -- by the file that was found and the number of its first rule that fails
   module _ (placed : all (filePlaced w (f .«window_base») (f .«policy_file» .base) (f .«policy_file» .size)) ≡ true) (s : List ℕ) (n : ℕ)
@@ -69,18 +77,18 @@ module _ (w r : List ℕ) (f : Found) where
     fault : firstFailing (fileRules file r) ≡ n
     fault = sym (rw is-file at is-fault)
 
-    pub file-refuses : (n ≡ 0 → ⊥) → refusal n ≡ listStage w r f
+    pub file-refuses : (n ≡ 0 → ⊥) → earlyRefusal n ≡ listStage w r f
     unfolding listStage
     file-refuses h =
-        group-refuses refusal permitting (fileRules file r) (last w file f) n (omega arith) fault
-        ∙ rule-passes refusal permitting 26 _ (fileRules file r ++ last w file f) placed
+        early-refuses w f permitting 27 28 (fileRules file r) (last w file f) (file-group file r .numbers) (lit< tt) n (omega arith) fault
+        ∙ rule-passes (refusal w f) permitting 26 _ (fileRules file r ++ last w file f) placed
 
     pub file-passes : n ≡ 0 → fileStage w s f ≡ listStage w r f
     unfolding listStage fileStage
     file-passes z =
         rw is-file
-        (group-passes refusal permitting (fileRules file r) (last w file f) (lit< tt & lit< tt & tt) (fault ∙ z)
-        ∙ rule-passes refusal permitting 26 _ (fileRules file r ++ last w file f) placed)
+        (group-passes (refusal w f) permitting (fileRules file r) (last w file f) (lit< tt & lit< tt & tt) (fault ∙ z)
+        ∙ rule-passes (refusal w f) permitting 26 _ (fileRules file r ++ last w file f) placed)
 
   -- 23 to 25
   abbrev rules : List Rule
@@ -92,24 +100,26 @@ module _ (w r : List ℕ) (f : Found) where
   abbrev outcome : Outcome
   outcome = permission w f (listFor w r f)
 
-  record-passes : firstFailing rules ≡ 0 → answerBy refusal outcome later ≡ decideStage w r f
+  record-passes : firstFailing rules ≡ 0 → answerBy (refusal w f) outcome later ≡ decideStage w r f
   unfolding decideStage
-  record-passes e = group-passes refusal outcome rules later (numbers-not-0 23 25 rules (lit< tt) (record-group r (f .flags) (f .«acm_version») .numbers)) e
+  record-passes e = group-passes (refusal w f) outcome rules later (numbers-not-0 23 25 rules (lit< tt) (record-group r (f .flags) (f .«acm_version») .numbers)) e
 
-  pub record-refuses : (n : ℕ) → recordOf r (f .flags) (f .«acm_version») ≡ records.Refused n → refusal n ≡ decideStage w r f
+  pub record-refuses : (n : ℕ) → recordOf r (f .flags) (f .«acm_version») ≡ records.Refused n → earlyRefusal n ≡ decideStage w r f
   unfolding decideStage
-  record-refuses n e = let a = refusal-exactly r _ _ n .0 e in group-refuses refusal outcome rules later n (a .0) (a .1)
+  record-refuses n e =
+      let a = refusal-exactly r _ _ n .0 e in
+      early-refuses w f outcome 23 25 rules later (record-group r (f .flags) (f .«acm_version») .numbers) (lit< tt) n (a .0) (a .1)
 
   pub record-any : recordOf r (f .flags) (f .«acm_version») ≡ records.Any → permission w f noList ≡ decideStage w r f
   record-any e =
       let a = any-exactly r _ _ .0 e in
-      let none : permission w f noList ≡ answerBy refusal outcome later =
-      rw (ne-eqb (policyType r) LIST (a .1)) (permits refusal (permission w f noList) [] refl) in
+      let none : permission w f noList ≡ answerBy (refusal w f) outcome later =
+      rw (ne-eqb (policyType r) LIST (a .1)) (permits (refusal w f) (permission w f noList) [] refl) in
       none ∙ record-passes (a .0)
 
   pub record-list : recordOf r (f .flags) (f .«acm_version») ≡ records.List → listStage w r f ≡ decideStage w r f
   unfolding listStage
   record-list e =
       let a = list-exactly r _ _ .0 e in
-      let under : listStage w r f ≡ answerBy refusal outcome later = rw (eq-eqb (policyType r) LIST (a .1)) in
+      let under : listStage w r f ≡ answerBy (refusal w f) outcome later = rw (eq-eqb (policyType r) LIST (a .1)) in
       under ∙ record-passes (a .0)

@@ -21,6 +21,7 @@ use Rattle.pages.specs.Memory.{windowOf}
 use Rattle.pages.specs.Tables as tables
 use Rattle.pages.specs.Rules.{startOf, afterEntry, baseRules, entryRules, rulesFrom, walkRules}
 use Rattle.decision.specs.Record.{policyType, LIST, recordRules}
+use Rattle.decision.specs.Answers.{fileRules}
 use Rattle.launch.specs.declared.Found.{Found}
 use Rattle.launch.specs.Rules.{Input, chipsetOf, platformTests, sizeRules, imageRules, pageRules, os, moduleData, memory, image, found, findRules, listRules, decideRules, rules}
 use Rattle.launch.specs.Demand1.{MayPrecede, InOrder}
@@ -111,6 +112,10 @@ module-group s base capacity c version = group 6 11 (sinit.rules s base capacity
 pub record-group : (r : List ℕ) (flags acmVersion : ℕ) → Group 23 25 (recordRules r flags acmVersion)
 unfolding ascend
 record-group r flags acmVersion = group 23 25 (recordRules r flags acmVersion) refl
+
+pub file-group : (file r : List ℕ) → Group 27 28 (fileRules file r)
+unfolding ascend
+file-group file r = group 27 28 (fileRules file r) refl
 
 lists-group : (w r : List ℕ) (f : Found) (t : Bool) → Group 26 29 (cond t (listRules w r f) [])
 unfolding ascend

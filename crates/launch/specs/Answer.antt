@@ -34,6 +34,14 @@ permitted i =
 unfoldable pub answerOf : Input → Answer
 answerOf i = answerBy refused (permitted i) (rules i)
 
+-- what a refusal shows of the digest of the pages: 29 the digest, since it is the one that no list permits; every other number zeros
+abbrev pub shown : List ℕ → ℕ → List ℕ
+shown digest n = cond (eqb n 29) digest (replicate 32 0)
+
+-- the digest of the pages where the answer is 0 or 29, else zeros
+unfoldable pub measurementOf : Input → List ℕ
+measurementOf i = let digest = imageDigest (i .window) (image i) in answerBy (shown digest) digest (rules i)
+
 -- "the page list keeps every place" on a refusal; "A permission writes the N page addresses, in linear order, to the first N places and keeps the rest"
 unfoldable pub placesOf : Input → List ℕ → List ℕ
 placesOf i places = answerBy (λ (n : ℕ). places) (pageList (i .window) (image i) places) (rules i)

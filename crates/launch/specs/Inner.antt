@@ -1,7 +1,8 @@
 -- What the contracts of the stages say: the answer by the rules that are left to try, with what the stages before have found.
 use Prim.Native.Nat.{ℕ}
 use mathlib.Core.List.{List, [], _∷_}
-use Rattle.rules.specs.Rules.{rule, answerBy}
+use lib.ListN.{replicate}
+use Rattle.rules.specs.Rules.{Rule, rule, answerBy}
 use Rattle.heap.specs.declared.OsSinitData.{OsSinitData}
 use Rattle.sinit.specs.declared.ModuleData.{ModuleData}
 use Rattle.pages.specs.declared.Memory.{Memory}
@@ -13,7 +14,7 @@ use Rattle.launch.specs.declared.FindAnswer.{FindAnswer}
 use Rattle.launch.specs.declared.FindAnswer.the-variants.{Complete, Refused}
 use Rattle.launch.specs.declared.Outcome.{Outcome}
 use Rattle.launch.specs.Rules.{Input, imageRules, pageRules, imageFound, foundOf, found, findRules, policyFile, criteria, listRules, decideRules, rules}
-use Rattle.launch.specs.Answer.{refused, listFor}
+use Rattle.launch.specs.Answer.{refused, listFor, shown}
 
 -- WHAT THE LAUNCH FINDS
 
@@ -34,28 +35,40 @@ findStage i = answerBy Refused (Complete (found i)) (findRules i)
 abbrev pub noImage : Image
 noImage = record { window = 0; tables = 0; first = 0; count = 0 }
 
-abbrev pub refusal : ℕ → Outcome
-refusal n = record { answer = refused n; image = noImage }
+abbrev pub refusalShowing : List ℕ → ℕ → Outcome
+refusalShowing measurement n = record { answer = refused n; image = noImage; measurement = measurement }
+
+-- by a rule that is tried before the image is hashed
+abbrev pub earlyRefusal : ℕ → Outcome
+earlyRefusal n = refusalShowing (replicate 32 0) n
+
+abbrev pub refusal : List ℕ → Found → ℕ → Outcome
+refusal window f n = refusalShowing (shown (imageDigest window (f .image)) n) n
 
 abbrev pub permissionWith : Found → ℕ → List ℕ → Outcome
-permissionWith f list digest = record { answer = record { number = 0; pages = f .image .count; list = list; digest = digest }; image = f .image }
+permissionWith f list digest =
+    record { answer = record { number = 0; pages = f .image .count; list = list; digest = digest }; image = f .image; measurement = digest }
 
 abbrev pub permission : List ℕ → Found → ℕ → Outcome
 permission window f list = permissionWith f list (imageDigest window (f .image))
 
+-- by rules, with the list that a permission names
+abbrev pub outcomeBy : List ℕ → Found → ℕ → List Rule → Outcome
+outcomeBy window f list rs = answerBy (refusal window f) (permission window f list) rs
+
 -- by rule 29 for a file, 26 to 29, 23 to 29
 unfoldable pub fileStage : List ℕ → List ℕ → Found → Outcome
 fileStage window file f =
-    answerBy refusal (permission window f (lowestPermitting file (criteria window f))) (rule 29 (somePermits file (criteria window f)) ∷ [])
+    outcomeBy window f (lowestPermitting file (criteria window f)) (rule 29 (somePermits file (criteria window f)) ∷ [])
 
 unfoldable pub listStage : List ℕ → List ℕ → Found → Outcome
 listStage window policyRecord f =
-    answerBy refusal (permission window f (lowestPermitting (policyFile window f) (criteria window f))) (listRules window policyRecord f)
+    outcomeBy window f (lowestPermitting (policyFile window f) (criteria window f)) (listRules window policyRecord f)
 
 unfoldable pub decideStage : List ℕ → List ℕ → Found → Outcome
-decideStage window policyRecord f = answerBy refusal (permission window f (listFor window policyRecord f)) (decideRules window policyRecord f)
+decideStage window policyRecord f = outcomeBy window f (listFor window policyRecord f) (decideRules window policyRecord f)
 
 -- BOTH IN TURN
 
 unfoldable pub outcomeOf : Input → Outcome
-outcomeOf i = answerBy refusal (permission (i .window) (found i) (listFor (i .window) (i .policyRecord) (found i))) (rules i)
+outcomeOf i = outcomeBy (i .window) (found i) (listFor (i .window) (i .policyRecord) (found i)) (rules i)

@@ -11,9 +11,9 @@ ghost use mathlib.Core.Path.{_≡_};
 ghost use Rattle.decision.specs.Lists.{noList};
 ghost use Rattle.launch.specs.Inner as spec;
 
-// No pages, and the answer of a refusal.
-pub(crate) fn refusal(n: u32) -> Outcome
-    ensures { λ r. ⌜ r ≡ spec.refusal n ⌝ }
+// No pages, the answer of a refusal, and what it shows of the digest.
+fn refusal_showing(n: u32, measurement: [u8; 32]) -> Outcome
+    ensures { λ r. ⌜ r ≡ spec.refusalShowing measurement n ⌝ }
 {
     Outcome {
         answer: refused(n),
@@ -23,7 +23,15 @@ pub(crate) fn refusal(n: u32) -> Outcome
             first: 0,
             count: 0,
         },
+        measurement: measurement,
     }
+}
+
+// A refusal by a rule that is tried before the image is hashed.
+pub(crate) fn refusal(n: u32) -> Outcome
+    ensures { λ r. ⌜ r ≡ spec.earlyRefusal n ⌝ }
+{
+    refusal_showing(n, [0u8; 32])
 }
 
 // The pages, the list and the digest.
@@ -40,6 +48,7 @@ fn permission(f: Found, list: u32, digest: [u8; 32]) -> Outcome
     Outcome {
         answer: answer,
         image: image,
+        measurement: digest,
     }
 }
 
@@ -55,7 +64,7 @@ fn by_file(window: &[u8], file: &[u8], f: Found) -> Outcome
     };
     let list = decision::lowest_permitting(file, criteria);
     if list == decision::NO_LIST {
-        return refusal(29);
+        return refusal_showing(29, digest);
     }
     permission(f, list, digest)
 }

@@ -14,7 +14,7 @@ ghost use mathlib.Core.Path.{_≡_};
 ghost use lib.ListN.{length};
 ghost use Rattle.launch.specs.Rules.{inputOf};
 ghost use Rattle.launch.specs.Answer as spec;
-ghost use Rattle.launch.specs.Answer.{answerOf, placesOf};
+ghost use Rattle.launch.specs.Answer.{answerOf, placesOf, measurementOf};
 ghost use Rattle.launch.specs.Inner.{outcomeOf};
 
 // The numbers of the platform.
@@ -54,10 +54,11 @@ pub enum FindAnswer {
     Refused(u32),
 }
 
-// The answer, and where the pages of the MLE are found, none on a refusal.
+// The answer, where the pages of the MLE are found, none on a refusal, and the digest of the pages where it is shown, on a permission and on 29.
 pub struct Outcome {
     pub answer: Answer,
     pub image: Image,
+    pub measurement: [u8; 32],
 }
 
 // The answer of a refusal: no pages, no list, a digest of zeros.
@@ -89,7 +90,30 @@ fn judge(
     }
 }
 
-// The answer for what is lent, and on permission the addresses of the pages in the first places of the page list.
+// The answer for what is lent, and on permission the addresses of the pages in the first places of the page list. `measurement` gets the digest of
+// the pages, on 29 too, and zeros on every other refusal.
+pub fn check_measured(
+    window: &[u8],
+    heap: &[u8],
+    sinit: &[u8],
+    record: &[u8],
+    platform: Platform,
+    pages: &mut [u64],
+    measurement: &mut [u8; 32],
+) -> Answer
+    ensures answer { λ r. ⌜ r ≡ answerOf (inputOf (now (window .entry)) (now (heap .entry)) (now (sinit .entry)) (now («record» .entry)) platform (length (now (pages .entry)))) ⌝ }
+    ensures places { λ _. ⌜ now (pages .exit) ≡ placesOf (inputOf (now (window .entry)) (now (heap .entry)) (now (sinit .entry)) (now («record» .entry)) platform (length (now (pages .entry)))) (now (pages .entry)) ⌝ }
+    ensures measurement { λ _. ⌜ now (measurement .exit) ≡ measurementOf (inputOf (now (window .entry)) (now (heap .entry)) (now (sinit .entry)) (now («record» .entry)) platform (length (now (pages .entry)))) ⌝ }
+{
+    let outcome = judge(window, heap, sinit, record, platform, pages.len());
+    let image = outcome.image;
+    mle::write_pages(window, image, pages);
+    let shown = outcome.measurement;
+    *measurement = shown;
+    outcome.answer
+}
+
+// The same without the measurement.
 pub fn check(
     window: &[u8],
     heap: &[u8],
@@ -101,8 +125,14 @@ pub fn check(
     ensures answer { λ r. ⌜ r ≡ answerOf (inputOf (now (window .entry)) (now (heap .entry)) (now (sinit .entry)) (now («record» .entry)) platform (length (now (pages .entry)))) ⌝ }
     ensures places { λ _. ⌜ now (pages .exit) ≡ placesOf (inputOf (now (window .entry)) (now (heap .entry)) (now (sinit .entry)) (now («record» .entry)) platform (length (now (pages .entry)))) (now (pages .entry)) ⌝ }
 {
-    let outcome = judge(window, heap, sinit, record, platform, pages.len());
-    let image = outcome.image;
-    mle::write_pages(window, image, pages);
-    outcome.answer
+    let mut measurement = [0u8; 32];
+    check_measured(
+        window,
+        heap,
+        sinit,
+        record,
+        platform,
+        pages,
+        &mut measurement,
+    )
 }

@@ -3,7 +3,7 @@
 use crate::{Answer, Parts, Platform};
 
 extern "C" {
-    fn bleiwurzel_check(
+    fn bleiwurzel_check_measured(
         window: *const u8,
         window_length: usize,
         heap: *const u8,
@@ -25,6 +25,7 @@ extern "C" {
         places: usize,
         counts: *mut [u32; 2],
         digest: *mut [u8; 32],
+        measurement: *mut [u8; 32],
     ) -> u32;
     fn bleiwurzel_check_capture(
         capture: *const u8,
@@ -43,12 +44,18 @@ extern "C" {
 }
 
 pub fn check(parts: &Parts, platform: &Platform, pages: &mut [u64]) -> Answer {
+    check_measured(parts, platform, pages).0
+}
+
+/// The answer, and the digest of the pages on a permission and on 29, else zeros.
+pub fn check_measured(parts: &Parts, platform: &Platform, pages: &mut [u64]) -> (Answer, [u8; 32]) {
     let mut counts = [0u32; 2];
     let mut digest = [0u8; 32];
+    let mut measurement = [0u8; 32];
     // SAFETY: each slice is passed with its own length; four are lent for reading and one for writing, and the borrow keeps the
-    // latter apart from them. The two arrays are this function's own.
+    // latter apart from them. The three arrays are this function's own.
     let number = unsafe {
-        bleiwurzel_check(
+        bleiwurzel_check_measured(
             parts.window.as_ptr(),
             parts.window.len(),
             parts.heap.as_ptr(),
@@ -70,9 +77,10 @@ pub fn check(parts: &Parts, platform: &Platform, pages: &mut [u64]) -> Answer {
             pages.len(),
             &mut counts,
             &mut digest,
+            &mut measurement,
         )
     };
-    Answer { number, pages: counts[0], list: counts[1], digest }
+    (Answer { number, pages: counts[0], list: counts[1], digest }, measurement)
 }
 
 pub fn check_capture(capture: &[u8], pages: &mut [u64]) -> Answer {

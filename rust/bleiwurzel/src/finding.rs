@@ -38,14 +38,29 @@ impl Finding {
 
 type Step<T> = Result<T, Finding>;
 
-/// The place of the rule with this number, where there is one.
-pub fn find(number: u32, parts: &Parts, platform: &Platform, places: usize) -> Option<Finding> {
-    find_read(number, parts, &Lengths::of(parts), platform, places)
+/// What a caller has at hand besides the parts: how long they are, where it read them up to a limit, and the digest of the pages, where
+/// [`answer_measured`](crate::answer_measured) handed it out; without that a finding for 29 hashes the image.
+#[derive(Clone, Copy, Debug, PartialEq, Eq)]
+pub struct AtHand {
+    pub lengths: Lengths,
+    pub digest: Option<[u8; 32]>,
 }
 
-/// The same for parts that were read up to a limit.
-pub fn find_read(number: u32, parts: &Parts, lengths: &Lengths, platform: &Platform, places: usize) -> Option<Finding> {
-    all(parts, lengths, platform, places).err().filter(|finding| finding.number == number)
+impl AtHand {
+    /// Of parts that were handed over whole.
+    fn of(parts: &Parts) -> Self {
+        AtHand { lengths: Lengths::of(parts), digest: None }
+    }
+}
+
+/// The place of the rule with this number, where there is one.
+pub fn find(number: u32, parts: &Parts, platform: &Platform, places: usize) -> Option<Finding> {
+    find_with(number, parts, &AtHand::of(parts), platform, places)
+}
+
+/// The same with what else is at hand.
+pub fn find_with(number: u32, parts: &Parts, at_hand: &AtHand, platform: &Platform, places: usize) -> Option<Finding> {
+    all(parts, at_hand, platform, places).err().filter(|finding| finding.number == number)
 }
 
 /// The same for a capture.
@@ -60,7 +75,7 @@ pub fn find_in_policy(number: u32, file: &[u8]) -> Option<Finding> {
 
 /// The first rule that does not hold, as this module sees it.
 pub fn first(parts: &Parts, platform: &Platform, places: usize) -> Option<Finding> {
-    all(parts, &Lengths::of(parts), platform, places).err()
+    all(parts, &AtHand::of(parts), platform, places).err()
 }
 
 /// The same for a capture.
@@ -73,7 +88,8 @@ pub fn first_in_capture(bytes: &[u8], places: usize) -> Option<Finding> {
     }
 }
 
-fn all(parts: &Parts, lengths: &Lengths, platform: &Platform, places: usize) -> Step<()> {
+fn all(parts: &Parts, at_hand: &AtHand, platform: &Platform, places: usize) -> Step<()> {
+    let lengths = &at_hand.lengths;
     limits(lengths, platform)?;
     let asked = heap::read(parts.heap)?;
     let module = module::read(parts.sinit, &lengths.sinit, platform)?;
@@ -92,7 +108,7 @@ fn all(parts: &Parts, lengths: &Lengths, platform: &Platform, places: usize) -> 
     let file = lists::place(parts.window, platform.window_base, &asked)?;
     let reading = grammar::read(file.bytes, Some(file.base))?;
     lists::hash(&reading, file.bytes, &record)?;
-    let digest = image::digest(parts.window, platform.window_base, &mapped);
+    let digest = at_hand.digest.unwrap_or_else(|| image::digest(parts.window, platform.window_base, &mapped));
     lists::permits(&reading, file.bytes, &module, &digest)
 }
 

@@ -123,6 +123,11 @@ pub fn answer(parts: &Parts, platform: &Platform, pages: &mut [u64]) -> Answer {
     ffi::check(parts, platform, pages)
 }
 
+/// The same, and the digest of the pages where the number is 0 or 29, zeros else: a refusal 29 says that no list names this digest.
+pub fn answer_measured(parts: &Parts, platform: &Platform, pages: &mut [u64]) -> (Answer, [u8; 32]) {
+    ffi::check_measured(parts, platform, pages)
+}
+
 /// The check. `pages` is written as [`answer`] says.
 pub fn check(parts: &Parts, platform: &Platform, pages: &mut [u64]) -> Result<Permission, Refusal> {
     answer(parts, platform, pages).result()

@@ -4,7 +4,7 @@ mod common;
 #[path = "common/tool.rs"]
 mod tool;
 
-use bleiwurzel::finding::{self, Finding};
+use bleiwurzel::finding::{self, AtHand, Finding, Lengths};
 use bleiwurzel::{capture, policy, refusals, sha256, MOST_PAGES};
 use common::*;
 use std::time::{Duration, Instant};
@@ -126,35 +126,49 @@ fn large() -> [Image; 2] {
     [image, unnamed]
 }
 
-/// The digest that a finding for 29 shows is worked out once; twice would take two times as long as one digest of the image.
+/// The tool's words for both of them, each in a folder of its own.
+fn large_written(name: &str) -> [Vec<String>; 2] {
+    let folder = folder(name);
+    large().map(|image| {
+        let folder = folder.join(image.window.len().to_string());
+        std::fs::create_dir_all(&folder).expect("a folder");
+        written(&folder, &image)
+    })
+}
+
+/// The digest that a refusal 29 shows is the check's own: the tool takes as long as for a permission, which hashes the image once.
 #[test]
-fn the_finding_for_29_hashes_the_image_once() {
+fn a_refusal_29_hashes_the_image_once() {
+    let calls = large_written("hashes_the_image_once");
+    let mut best = [Duration::MAX; 2];
+    for _ in 0..7 {
+        for (words, best) in calls.iter().zip(&mut best) {
+            let began = Instant::now();
+            run_with(&["check"], words, &[]);
+            *best = (*best).min(began.elapsed());
+        }
+    }
+    assert!(best[1] < best[0].mul_f64(1.5), "a permission takes {:?}, a refusal 29 {:?}", best[0], best[1]);
+}
+
+/// With the digest at hand and without it the finding says the same.
+#[test]
+fn the_digest_at_hand_is_that_of_the_image() {
     let [_, image] = large();
     let parts = image.parts();
+    let (answer, digest) = bleiwurzel::answer_measured(&parts, &image.platform, &mut vec![0; MOST_PAGES]);
+    assert_eq!((answer.number, answer.digest), (29, [0; 32]));
     let begin = image.offset(image.listed[0]);
-    let pages = &image.window[begin..begin + MOST_PAGES * PAGE];
-    let mut best = [Duration::MAX; 2];
-    for _ in 0..5 {
-        let began = Instant::now();
-        let digest = sha256(pages);
-        best[0] = best[0].min(began.elapsed());
-        let began = Instant::now();
-        let finding = finding::find(29, &parts, &image.platform, MOST_PAGES).expect("a finding");
-        best[1] = best[1].min(began.elapsed());
-        assert!(finding.expected.ends_with(&bleiwurzel::text::digits(&digest)), "{}", finding.expected);
-    }
-    assert!(best[1] < best[0].mul_f64(1.5), "one digest takes {:?}, the finding {:?}", best[0], best[1]);
+    assert_eq!(digest, sha256(&image.window[begin..begin + MOST_PAGES * PAGE]));
+    let at_hand = AtHand { lengths: Lengths::of(&parts), digest: Some(digest) };
+    let found = finding::find_with(29, &parts, &at_hand, &image.platform, MOST_PAGES);
+    assert!(found.is_some() && found == finding::find(29, &parts, &image.platform, MOST_PAGES));
 }
 
 /// The finding for 29 reads the image where it stands: the refusal needs no more memory than a permission, but for a fourth of the image.
 #[test]
 fn the_finding_for_29_does_not_copy_the_image() {
-    let folder = folder("does_not_copy");
-    let [permitted, refused] = large().map(|image| {
-        let folder = folder.join(image.window.len().to_string());
-        std::fs::create_dir_all(&folder).expect("a folder");
-        written(&folder, &image)
-    });
+    let [permitted, refused] = large_written("does_not_copy");
     let within = |kibibytes: usize, words: &[String]| {
         let script = format!("ulimit -c 0; ulimit -v {kibibytes}; exec \"$0\" check \"$@\"");
         in_bash(&script, words).status.code()

@@ -1,19 +1,16 @@
--- `bleiwurzel_check` meets its contract: the answer of the check, number by number.
+-- `bleiwurzel_check` meets its contract: that of `bleiwurzel_check_measured`, without the measurement.
 use borrow.Author.Needs.{needs}
-use Rattle.bleiwurzel.proofs.Answers.{as-given}
 use Rattle.bleiwurzel.proofs.bleiwurzel_check.Statement.{statement}
 use Rattle.bleiwurzel.proofs.bleiwurzel_check.Tie as tie
 
-check-requires : tie.Need-check-requires
-check-requires c κs = search needs
+bleiwurzel-check-measured-requires : tie.Need-bleiwurzel-check-measured-requires
+bleiwurzel-check-measured-requires c κs = search needs
 
 same-length : tie.Need-same-length
 same-length c = search needs
 
 returns : tie.Need-returns
-returns c =
-    let called = c .before .before .before .check in
-    as-given (called .result) _ _ _ (called .ensures .0) (called .ensures .1)
+returns c = c .before .before .bleiwurzel-check-measured .ensures .0
 
 pub bleiwurzel-check-spec : {M : Type 1} → statement M
-bleiwurzel-check-spec = tie.close (tie.spec check-requires same-length returns)
+bleiwurzel-check-spec = tie.close (tie.spec bleiwurzel-check-measured-requires same-length returns)

@@ -3,7 +3,7 @@
 use super::args::{self, Args};
 use super::files::Contents;
 use super::{files, help, misuse, module, platform, report, Misuse, Said, MISUSE};
-use bleiwurzel::finding::{self, Lengths};
+use bleiwurzel::finding::{self, AtHand, Lengths};
 use bleiwurzel::{capture, Parts, Platform, MOST_HEAP, MOST_PAGES, MOST_WINDOW, RECORD_LENGTH};
 use std::ffi::OsString;
 
@@ -77,10 +77,13 @@ pub fn run(words: Vec<OsString>) -> Result<Said, Misuse> {
 fn of_parts(loaded: &Loaded, platform: &Platform, json: bool) -> Said {
     let parts = loaded.parts();
     let mut pages = vec![0; MOST_PAGES];
-    match bleiwurzel::check(&parts, platform, &mut pages) {
+    let (answer, digest) = bleiwurzel::answer_measured(&parts, platform, &mut pages);
+    match answer.result() {
         Ok(permission) => report::permitted(&permission, &pages, json),
         Err(refusal) => {
-            let found = finding::find_read(refusal.number, &parts, &loaded.lengths(), platform, pages.len());
+            // Before 29 the image is not hashed, and no finding asks for its digest.
+            let at_hand = AtHand { lengths: loaded.lengths(), digest: Some(digest) };
+            let found = finding::find_with(refusal.number, &parts, &at_hand, platform, pages.len());
             report::refused(refusal, found.as_ref(), HELP, json)
         }
     }

@@ -52,8 +52,8 @@ pub fn header(window: &[u8], window_base: u64, asked: &OsSinitData, module: &Mod
     )
 }
 
-/// SHA-256 over the pages in linear order. A refusal carries no digest, so that it is worked out here, once. Pages that also follow one
-/// another in memory, as loaders place them, are read where they stand; others are joined first.
+/// SHA-256 over the pages in linear order, for who asks without the digest. Pages that also follow one another in memory, as loaders place
+/// them, are read where they stand; others are joined first.
 pub fn digest(window: &[u8], window_base: u64, mapped: &Mapped) -> [u8; 32] {
     let pages = &mapped.pages;
     let length = pages.len() * PAGE_SIZE as usize;

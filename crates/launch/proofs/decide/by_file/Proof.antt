@@ -11,13 +11,13 @@ digest-requires c κs = search needs
 lowest-permitting-requires : tie.Need-lowest-permitting-requires
 lowest-permitting-requires c κs = search needs
 
-refusal-requires : tie.Need-refusal-requires
-refusal-requires c κs = search needs
+refusal-showing-requires : tie.Need-refusal-showing-requires
+refusal-showing-requires c κs = search needs
 
 returns : tie.Need-returns
 returns c =
     let at-list = c .before .before in
-    c .refusal .ensures
+    c .refusal-showing .ensures
     ∙ no-list _ _ _ _ _ (at-list .before .digest .ensures) (at-list .lowest-permitting .ensures) (λ i. at-list .before .before .before .shared-slice-known2 .given i .fits) (c .before .if1 .taken)
 
 permission-requires : tie.Need-permission-requires
@@ -35,7 +35,7 @@ by-file-spec =
     (tie.spec
     digest-requires
     lowest-permitting-requires
-    refusal-requires
+    refusal-showing-requires
     returns
     permission-requires
     returns-2)

@@ -1,14 +1,13 @@
--- `refusal` meets its contract: no pages, and the answer of a refusal.
+-- `refusal` meets its contract: a refusal that shows nothing.
 use borrow.Author.Needs.{needs}
 use Rattle.launch.proofs.decide.refusal.Statement.{statement}
 use Rattle.launch.proofs.decide.refusal.Tie as tie
 
-refused-requires : tie.Need-refused-requires
-refused-requires c κs = search needs
+refusal-showing-requires : tie.Need-refusal-showing-requires
+refusal-showing-requires c κs = search needs
 
 returns : tie.Need-returns
-returns c =
-    rw (c .refused .ensures)
+returns c = c .refusal-showing .ensures
 
 pub refusal-spec : {M : Type 1} → statement M
-refusal-spec = tie.close (tie.spec refused-requires returns)
+refusal-spec = tie.close (tie.spec refusal-showing-requires returns)

@@ -1,13 +1,15 @@
 -- `output-fits`: the bytes that a program lends for the output suffice for every answer with at most 4,096 pages.
 use Prim.Native.Nat.{ℕ, zero, suc, _+_, _/_, _%_, _≤_}
-use mathlib.Core.Logic.{_⊎_, ⊎-elim}
+use mathlib.Core.Path.{_≡_, _∙_}
+use mathlib.Core.Logic.{_⊎_, inr, ⊎-elim}
 use mathlib.Core.Bool.{Bool, true, false, cond}
 use mathlib.Core.List.{List, [], _∷_, _++_}
 use native.Mathlib.Omega.{arith}
+use borrow.Author.Tests.{le-leb}
 use lib.Dec.{ltb, eqb}
-use lib.ListN.{length, take, length-append, length-take}
+use lib.ListN.{length, take, drop, length-append, length-take}
 use Rattle.launch.specs.declared.Answer.{Answer}
-use Rattle.answer_text.specs.Text.{LF, digit, digits, mostDigits, decimal, listText, permittedLine, refusedLine, firstLine, pageLines, shownPages, lentPlaces, output, OutputFits}
+use Rattle.answer_text.specs.Text.{LF, digit, digits, mostDigits, decimal, listText, permittedLine, refusedLine, firstLine, pageLines, shownPages, lentPlaces, lentOutput, output, fits, outputLength, outputIn, OutputFits}
 use Rattle.answer_text.proofs.Written.{lines-length}
 
 digits-most : (most n : ℕ) → length (digits most n) ≤ most
@@ -46,3 +48,18 @@ unfolding output
 output-fits a places h =
     let lines = pageLines (shownPages a places) in
     omega (arith, length-append (firstLine a) lines, first-most a places, lines-length (shownPages a places), shown-most a places h)
+
+-- so the whole output stands in what a program lends
+module _ (a : Answer) (places buffer : List ℕ) (p : length places ≡ lentPlaces) (b : length buffer ≡ lentOutput) where
+  room : fits a places buffer ≡ true
+  room =
+      let few : length places ≤ lentPlaces = omega (arith, p) in
+      le-leb (length (output a places)) (length buffer) (omega (arith, output-fits a places (inr few), b))
+
+  pub lent-length : (r : ℕ) → r ≡ outputLength a places buffer → r ≡ length (output a places)
+  unfolding outputLength
+  lent-length r e = e ∙ rw room
+
+  pub lent-text : (later : List ℕ) → later ≡ outputIn a places buffer → later ≡ output a places ++ drop (length (output a places)) buffer
+  unfolding outputIn
+  lent-text later e = e ∙ rw room

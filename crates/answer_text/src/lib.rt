@@ -7,7 +7,7 @@ ghost use mathlib.Core.List.{[], _++_};
 ghost use Prim.Native.Nat.{_+_, _*_, _<_, _≤_};
 ghost use lib.ListN.{length, take, drop};
 ghost use lib.Seq.{paste};
-ghost use Rattle.answer_text.specs.Text.{written, firstLine, pageLine, pageLines, shownPages, outputLength, outputIn, AtFront};
+ghost use Rattle.answer_text.specs.Text.{output as Text·output, written, firstLine, pageLine, pageLines, shownPages, outputLength, outputIn, AtFront};
 ghost use Rattle.answer_text.specs.Text.{digit as Text·digit, hexDigit as Text·hexDigit, decimal as Text·decimal};
 
 const MOST_DIGITS: usize = 10;
@@ -25,9 +25,9 @@ pub const PLACES: usize = 4096;
 pub const OUTPUT: usize = FIRST_LINE + PAGE_LINE * PLACES;
 
 // A line of text: the first `len` bytes of the array. What is behind them is free.
-pub struct Line {
-    pub bytes: [u8; FIRST_LINE],
-    pub len: usize,
+struct Line {
+    bytes: [u8; FIRST_LINE],
+    len: usize,
 }
 
 // The digits of a number: the bytes of the array from `start` on. What is before them is free.
@@ -192,7 +192,7 @@ fn shown(a: Answer, pages: &[u64]) -> usize
 
 // Writes the output for an answer and a page list to the front of the buffer and gives its length. Where the buffer has no room for it, the buffer
 // stays as it is and the length is 0.
-pub fn output(a: Answer, pages: &[u64], out: &mut [u8]) -> usize
+fn output_in(a: Answer, pages: &[u64], out: &mut [u8]) -> usize
     ensures length { λ r. ⌜ r ≡ outputLength a (now (pages .entry)) (now (out .entry)) ⌝ }
     ensures text { λ _. ⌜ now (out .exit) ≡ outputIn a (now (pages .entry)) (now (out .entry)) ⌝ }
     ensures front { λ r. ⌜ AtFront r (now (out .exit)) ⌝ }
@@ -209,4 +209,13 @@ pub fn output(a: Answer, pages: &[u64], out: &mut [u8]) -> usize
     put_line(out, line);
     put_pages(out, len, pages, n);
     len + PAGE_LINE * n
+}
+
+// The whole output at the front of the buffer that a program lends, whose other bytes stay: how many bytes it has. There is room for every answer.
+pub fn output(a: Answer, pages: &[u64; PLACES], out: &mut [u8; OUTPUT]) -> usize
+    ensures length { λ r. ⌜ r ≡ length (Text·output a (now (pages .entry))) ⌝ }
+    ensures text { λ _. ⌜ now (out .exit) ≡ Text·output a (now (pages .entry)) ++ drop (length (Text·output a (now (pages .entry)))) (now (out .entry)) ⌝ }
+    ensures front { λ r. ⌜ AtFront r (now (out .exit)) ⌝ }
+{
+    output_in(a, pages, out)
 }

@@ -1,11 +1,13 @@
 -- What the reader answers, as a kind and an array of numbers.
 use Prim.Native.Nat.{ℕ}
+use mathlib.Core.Path.{_≡_}
 use mathlib.Core.List.{List, [], _∷_}
 use lib.ListN.{replicate}
 use Rattle.policy_answers.specs.declared.ListAnswer.{ListAnswer}
 use Rattle.policy_answers.specs.declared.ListAnswer.the-variants as lists
 use Rattle.policy_answers.specs.declared.ElementAnswer.{ElementAnswer}
 use Rattle.policy_answers.specs.declared.ElementAnswer.the-variants.{Launch, Custom, Unjudged, Refused}
+use Rattle.policy_reader.specs.Offsets.{ListAtExactly, ElementAtExactly}
 
 abbrev pub listKind : ListAnswer → ℕ
 listKind lists.Absent = 0
@@ -29,3 +31,17 @@ elementFields Refused = replicate 8 0
 elementFields (Launch start size control m v a n) = start ∷ size ∷ 0x10 ∷ control ∷ m ∷ v ∷ a ∷ n ∷ []
 elementFields (Custom start size control) = start ∷ size ∷ 3 ∷ control ∷ 0 ∷ 0 ∷ 0 ∷ 0 ∷ []
 elementFields (Unjudged start size type control) = start ∷ size ∷ type ∷ control ∷ 0 ∷ 0 ∷ 0 ∷ 0 ∷ []
+
+-- the kind and the numbers are those of the list that stands at an offset of the string, if one does
+pub record ListNumbersAt (s : List ℕ) (at kind : ℕ) (fields : List ℕ) : Type 0 where
+  pub answer : ListAnswer
+  pub exactly : ListAtExactly s at answer
+  pub kind-is : kind ≡ listKind answer
+  pub fields-are : fields ≡ listFields answer
+
+-- the same of the element
+pub record ElementNumbersAt (s : List ℕ) (at kind : ℕ) (fields : List ℕ) : Type 0 where
+  pub answer : ElementAnswer
+  pub exactly : ElementAtExactly s at answer
+  pub kind-is : kind ≡ elementKind answer
+  pub fields-are : fields ≡ elementFields answer

@@ -5,13 +5,10 @@ use policy_answers::FileAnswer;
 use policy_answers::ListAnswer;
 ghost use mathlib.Core.Path.{_≡_};
 ghost use mathlib.Core.List.{[], _∷_};
-ghost use lib.ListN.{drop};
-ghost use Rattle.policy_grammar.specs.Parser.{valueOf};
 ghost use Rattle.policy_grammar.specs.Decode.{accepted};
-ghost use Rattle.policy_grammar.specs.Decode as Decode;
-ghost use Rattle.policy_answers.specs.Answers.{fileShown, listShown, listAnswer, elementShown, elementAnswer};
+ghost use Rattle.policy_answers.specs.Answers.{fileShown, listAnswer, elementAnswer};
 ghost use Rattle.policy_answers.specs.Seen.{numberOf, countOf};
-ghost use Rattle.bleiwurzel.specs.Policy.{listKind, listFields, elementKind, elementFields};
+ghost use Rattle.bleiwurzel.specs.Policy.{listKind, listFields, elementKind, elementFields, ListNumbersAt, ElementNumbersAt};
 
 // The number of a string: 0, 26 or 27. `lists` gets the number of its lists, 0 where it is refused.
 #[no_mangle]
@@ -105,8 +102,7 @@ pub extern "C" fn bleiwurzel_policy_list(file: &[u8], i: usize, fields: &mut [u6
 // The list that stands at an offset.
 #[no_mangle]
 pub extern "C" fn bleiwurzel_policy_list_at(file: &[u8], at: usize, fields: &mut [u64; 9]) -> u32
-    ensures kind { λ r. ⌜ r ≡ listKind (listShown at (valueOf (Decode.list (drop at (now (file .entry)))))) ⌝ }
-    ensures fields { λ _. ⌜ now (fields .exit) ≡ listFields (listShown at (valueOf (Decode.list (drop at (now (file .entry)))))) ⌝ }
+    ensures { λ r. ⌜ ListNumbersAt (now (file .entry)) at r (now (fields .exit)) ⌝ }
 {
     list_numbers(policy_reader::list_at(file, at), fields)
 }
@@ -190,8 +186,7 @@ pub extern "C" fn bleiwurzel_policy_element(
 // The element that stands at an offset.
 #[no_mangle]
 pub extern "C" fn bleiwurzel_policy_element_at(file: &[u8], at: usize, fields: &mut [u64; 8]) -> u32
-    ensures kind { λ r. ⌜ r ≡ elementKind (elementShown at (valueOf (Decode.element (drop at (now (file .entry)))))) ⌝ }
-    ensures fields { λ _. ⌜ now (fields .exit) ≡ elementFields (elementShown at (valueOf (Decode.element (drop at (now (file .entry)))))) ⌝ }
+    ensures { λ r. ⌜ ElementNumbersAt (now (file .entry)) at r (now (fields .exit)) ⌝ }
 {
     element_numbers(policy_reader::element_at(file, at), fields)
 }

@@ -9,7 +9,7 @@ use lib.ListN.{length}
 use Rattle.field.specs.Number.{Bytes}
 use Rattle.rules.proofs.Meaning.{InTurn, agrees, broken-exactly}
 use Rattle.policy_grammar.specs.Grammar.{Reading, Makes}
-use Rattle.policy_grammar.specs.Decode.{largestFile}
+use Rattle.policy_grammar.specs.Sizes.{largestFile}
 use Rattle.decision.specs.declared.Criteria.{Criteria}
 use Rattle.decision.specs.Lists.{somePermits}
 use Rattle.decision.specs.Answers.{fileRules}

@@ -56,54 +56,54 @@ module _ (type : ℕ) where
 
 -- THE RECORD
 
-module _ (r : List ℕ) (flags acm : ℕ) where
-  pub agree : Agree (recordRules r flags acm) (recordMeanings r flags acm)
-  agree = agrees (lit< tt) (record-exactly r) & agrees (lit< tt) (worthy-or-allowed-exactly flags r) & agrees (lit< tt) (reached-exactly acm r) & tt
+module _ (r : List ℕ) (flags acmVersion : ℕ) where
+  pub agree : Agree (recordRules r flags acmVersion) (recordMeanings r flags acmVersion)
+  agree = agrees (lit< tt) (record-exactly r) & agrees (lit< tt) (worthy-or-allowed-exactly flags r) & agrees (lit< tt) (reached-exactly acmVersion r) & tt
 
   abbrev rs : List Rule
-  rs = recordRules r flags acm
+  rs = recordRules r flags acmVersion
 
   abbrev kind : RecordAnswer
   kind = kindOf (policyType r)
 
   -- LIST or ANY by the number and the type; a number is that of the first rule that fails
-  pub list-exactly : (recordOf r flags acm ≡ answers.List) ↔ ((firstFailing rs ≡ 0) × (policyType r ≡ LIST))
+  pub list-exactly : (recordOf r flags acmVersion ≡ answers.List) ↔ ((firstFailing rs ≡ 0) × (policyType r ≡ LIST))
   unfolding recordOf
   list-exactly =
       let answer = value-exactly answers.Refused kind answers.List not-list (firstFailing rs) in
       let type = is-list (policyType r) (eqb (policyType r) LIST) refl in
       (λ e. (let h = answer .0 e in (h .0, type .0 (h .1))), λ h. answer .1 (h .0, type .1 (h .1)))
 
-  pub any-exactly : (recordOf r flags acm ≡ answers.Any) ↔ ((firstFailing rs ≡ 0) × (policyType r ≡ LIST → ⊥))
+  pub any-exactly : (recordOf r flags acmVersion ≡ answers.Any) ↔ ((firstFailing rs ≡ 0) × (policyType r ≡ LIST → ⊥))
   unfolding recordOf
   any-exactly =
       let answer = value-exactly answers.Refused kind answers.Any not-any (firstFailing rs) in
       let type = is-any (policyType r) (eqb (policyType r) LIST) refl in
       (λ e. (let h = answer .0 e in (h .0, type .0 (h .1))), λ h. answer .1 (h .0, type .1 (h .1)))
 
-  pub refusal-exactly : (n : ℕ) → (recordOf r flags acm ≡ answers.Refused n) ↔ ((0 < n) × (firstFailing rs ≡ n))
+  pub refusal-exactly : (n : ℕ) → (recordOf r flags acmVersion ≡ answers.Refused n) ↔ ((0 < n) × (firstFailing rs ≡ n))
   unfolding recordOf
   refusal-exactly n = number-exactly answers.Refused kind (not-refused (policyType r) (eqb (policyType r) LIST)) same (firstFailing rs) n
 
   -- no rule fails exactly where every rule says what is so
-  pub all-say : (firstFailing rs ≡ 0) ↔ AllSay (recordMeanings r flags acm)
-  all-say = all-mean rs (recordMeanings r flags acm) agree
+  pub all-say : (firstFailing rs ≡ 0) ↔ AllSay (recordMeanings r flags acmVersion)
+  all-say = all-mean rs (recordMeanings r flags acmVersion) agree
 
 pub number-is-first : NumberIsFirst
 unfolding recordOf
-number-is-first r flags acm =
-    number-of answers.Refused (kind r flags acm) numberOf (is-number (policyType r) (eqb (policyType r) LIST)) (λ n. refl) (firstFailing (rs r flags acm))
+number-is-first r flags acmVersion =
+    number-of answers.Refused (kind r flags acmVersion) numberOf (is-number (policyType r) (eqb (policyType r) LIST)) (λ n. refl) (firstFailing (rs r flags acmVersion))
 
 pub answer-exactly : AnswerExactly
 unfolding recordOf
-answer-exactly r flags acm =
-    let say = all-say r flags acm in
-    let list = list-exactly r flags acm in
-    let any = any-exactly r flags acm in (
+answer-exactly r flags acmVersion =
+    let say = all-say r flags acmVersion in
+    let list = list-exactly r flags acmVersion in
+    let any = any-exactly r flags acmVersion in (
       (λ e. (let h = list .0 e in (say .0 (h .0), h .1)), λ h. list .1 (say .1 (h .0), h .1)),
       (
         λ e. (let h = any .0 e in let s = say .0 (h .0) in (s, ⊎-elim (λ z. absurd (h .1 z)) (λ z. z) (s .0 .type))),
         λ h. any .1 (say .1 (h .0), λ z. omega arith),
       ),
-      number-means answers.Refused (kind r flags acm) (rs r flags acm) (recordMeanings r flags acm) (agree r flags acm) (not-refused (policyType r) (eqb (policyType r) LIST)) same,
+      number-means answers.Refused (kind r flags acmVersion) (rs r flags acmVersion) (recordMeanings r flags acmVersion) (agree r flags acmVersion) (not-refused (policyType r) (eqb (policyType r) LIST)) same,
     )

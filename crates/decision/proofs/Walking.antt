@@ -13,7 +13,8 @@ use Rattle.policy_answers.specs.declared.FileAnswer.{FileAnswer}
 use Rattle.policy_answers.specs.declared.FileAnswer.the-variants.{Accepted, WrongSize, NotOfGrammar}
 use Rattle.policy_grammar.specs.Grammar.{All, listBytes, ValidList, Reading}
 use Rattle.policy_grammar.specs.Parser.{valueOf}
-use Rattle.policy_grammar.specs.Decode.{reading, accepted, sized}
+use Rattle.policy_grammar.specs.Decode.{reading, accepted}
+use Rattle.policy_grammar.specs.Sizes.{sized}
 use Rattle.policy_answers.specs.Answers.{fileShown}
 use Rattle.policy_reader.proofs.Walk.{walk-start}
 use Rattle.decision.specs.Lists.{isSome, ofGrammar, listsOf}

@@ -12,7 +12,8 @@ use Rattle.sha256.specs.Message.{sha256}
 use Rattle.policy_grammar.specs.Grammar.{Body, Launch, Element, Signing, PolicyList, listBytes}
 use Rattle.policy_grammar.specs.Grammar as Grammar
 use Rattle.policy_answers.specs.Answers.{listsIn}
-use Rattle.policy_grammar.specs.Decode.{accepted, leastFile, largestFile}
+use Rattle.policy_grammar.specs.Decode.{accepted}
+use Rattle.policy_grammar.specs.Sizes.{leastFile, largestFile}
 use Rattle.decision.specs.declared.Criteria.{Criteria}
 use Rattle.decision.specs.Record.{policyHash, sha256Alg}
 

@@ -13,7 +13,7 @@ use Rattle.rules.specs.Meaning.{Meaning, meaning, AllSay, FirstBroken}
 use Rattle.sha256.specs.Message.{sha256}
 use Rattle.policy_grammar.specs.Grammar.{Launch, Element, PolicyList, Reading, Makes}
 use Rattle.policy_grammar.specs.Grammar as Grammar
-use Rattle.policy_grammar.specs.Decode.{leastFile, largestFile}
+use Rattle.policy_grammar.specs.Sizes.{leastFile, largestFile}
 use Rattle.decision.specs.declared.Criteria.{Criteria}
 use Rattle.decision.specs.declared.RecordAnswer.the-variants as answers
 use Rattle.decision.specs.Record.{recordSize, versionHigh, knownVersion, hashAlg, sha256Alg, policyType, LIST, ANY, sinitMinVersion, control, policyHash, recordTests, worthyOrAllowed, versionReached, recordRules}

@@ -24,7 +24,7 @@ use Rattle.pages.specs.Meaning.{walkMeanings}
 use Rattle.pages.proofs.Conditions.{walk-agree}
 use Rattle.mle.proofs.Meaning.{size-exactly, header-exactly}
 use Rattle.policy_grammar.specs.Grammar.{Reading, Makes}
-use Rattle.policy_grammar.specs.Decode.{largestFile}
+use Rattle.policy_grammar.specs.Sizes.{largestFile}
 use Rattle.decision.specs.Record.{policyType, LIST, recordRules}
 use Rattle.decision.specs.Lists.{filePlaced, fileOf, somePermits}
 use Rattle.decision.specs.Answers.{fileRules}

@@ -62,14 +62,6 @@ mapped-exactly w m t f n =
           answer .1 (passed .1 all, walks-unique w m t _ _ f n (walks w m t all) h),
     )
 
--- the pages that are mapped have numbers of the level
-pub mapped-below : (w : List ℕ) (m : Memory) (t f n : ℕ) → walkOf w m t ≡ Mapped f n → f + n ≤ levelSize Page
-mapped-below w m t f n e = by n (mapped-exactly w m t f n .0 e)
-  where
-    by : (n : ℕ) → Walks w m t f n → f + n ≤ levelSize Page
-    by zero h = omega (arith, h .noPage refl)
-    by (suc n) h = omega (arith, in-level w (m .window) t Page (f + n) (h .pages (f + n) (omega arith) (omega arith)))
-
 pub refused-exactly : RefusedExactly
 unfolding walkOf answerOf
 refused-exactly w m t n =

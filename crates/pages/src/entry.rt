@@ -3,7 +3,7 @@ use crate::Kind;
 ghost use mathlib.Core.Path.{_≡_};
 ghost use Rattle.pages.specs.Entry.{presentOf, addressOf, reservedClear};
 
-pub fn present(e: u64) -> bool
+pub(crate) fn present(e: u64) -> bool
     ensures { λ r. ⌜ r ≡ presentOf e ⌝ }
 {
     e & 1 == 1

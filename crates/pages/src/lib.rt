@@ -5,7 +5,6 @@ mod placement;
 mod tables;
 
 pub use entry::address;
-pub use entry::present;
 pub use levels::walk;
 use range::Range;
 pub use tables::page;

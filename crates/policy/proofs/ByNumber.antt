@@ -12,7 +12,8 @@ use mir.Val.{Fits}
 use mir.Syntax.{w8}
 use Rattle.policy_grammar.specs.Grammar.{All, Element, elementBytes, ValidElement, Signing, PolicyList, listBytes, ValidList, Reading}
 use Rattle.policy_grammar.specs.Grammar as Grammar
-use Rattle.policy_grammar.specs.Decode.{accepted, sized}
+use Rattle.policy_grammar.specs.Decode.{accepted}
+use Rattle.policy_grammar.specs.Sizes.{sized}
 use Rattle.policy_answers.specs.Answers.{fileShown, listShown, signingShown, elementsOf, listsIn, place, listAnswer, elementIn, elementAnswer}
 use Rattle.policy_answers.specs.declared.FileAnswer.{FileAnswer}
 use Rattle.policy_answers.specs.declared.FileAnswer.the-variants as files

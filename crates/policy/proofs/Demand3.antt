@@ -1,40 +1,22 @@
 -- Demand 3: `demand3`. The reading is that with which the reader accepts the string; the grammar makes the string from it alone, and each answer shows its part.
-use Prim.Native.Nat.{ℕ, _+_, _≤_, _<_}
-use native.Mathlib.Omega.{arith}
-use mathlib.Core.Path.{_≡_, refl, sym, _∙_, subst}
-use mathlib.Core.Logic.{_⊎_, ⊎-elim}
-use mathlib.Core.Bool.{Bool, true, false, cond, and-eq-true-iff}
+use Prim.Native.Nat.{ℕ, _+_}
+use mathlib.Core.Path.{_≡_, refl, sym, subst}
+use mathlib.Core.Bool.{Bool, true, false, cond}
 use mathlib.Core.List.{List}
 use mathlib.Core.Option.{Option, some, none, Option·map}
-use lib.ListN.{length, getElem?}
-use borrow.Author.Tests.{leb-true}
+use lib.ListN.{getElem?}
 use Rattle.field.specs.Number.{Bytes}
 use Rattle.policy.specs.declared.Answers.{Answers}
 use Rattle.policy_answers.specs.declared.FileAnswer.the-variants.{WrongSize, NotOfGrammar}
 use Rattle.policy_grammar.specs.Grammar.{bodyBytes, listBytes, Element, PolicyList, Reading, Makes}
-use Rattle.policy_grammar.specs.Decode.{accepted, sized}
+use Rattle.policy_grammar.specs.Decode.{accepted}
+use Rattle.policy_grammar.specs.Sizes.{sized}
 use Rattle.policy_answers.specs.Answers.{fileShown, elementIn, place, listAnswer, keyAnswer, signatureAnswer, elementAnswer}
 use Rattle.policy_answers.specs.Seen.{numberOf, countOf, seenElement, seenBody}
-use Rattle.policy.specs.Demand3.{Demand3, Answered, MadeFrom, IsReadingOf, Shows, answersOf}
-use Rattle.policy_grammar.proofs.Decoding.{unique}
-use Rattle.policy_reader.proofs.Places.{accepted-sound, accepted-complete, list-at, element-at}
+use Rattle.policy.specs.Demand3.{Demand3, Answered, Shows, answersOf}
+use Rattle.policy_reader.proofs.Places.{accepted-sound, list-at, element-at}
+use Rattle.policy_reader.proofs.Readings.{is-reading}
 use Rattle.policy_reader.proofs.Seen.{list-seen, key-seen, signature-seen, element-seen, body-seen}
-
-inside : (s : List ℕ) → sized s ≡ true → (36 ≤ length s) × (length s ≤ 65536)
-inside s e = let p = and-eq-true-iff _ _ .0 e in (leb-true _ _ (p .0), leb-true _ _ (p .1))
-
-is-reading : (s : List ℕ) → Bytes s → IsReadingOf s (accepted s)
-is-reading s b = record { made = λ h. made h (accepted s) refl; outside = λ u. outside u (accepted s) refl; one = λ r r′ m m′. unique r r′ s m m′ }
-  where
-    made : length s ≤ 65536 → (o : Option Reading) → accepted s ≡ o → MadeFrom s o
-    made h none q = λ r m. (let e : some r ≡ none = sym (accepted-complete r s m h) ∙ q in let z : _≡_ {A = ℕ} 0 1 = cc in omega arith)
-    made h (some r) q = accepted-sound s r b q .0
-
-    outside : (length s < 36) ⊎ (65536 < length s) → (o : Option Reading) → accepted s ≡ o → o ≡ none
-    outside u none q = refl
-    outside u (some r) q =
-        let w = inside s (accepted-sound s r b q .1) in
-        absurd (⊎-elim (λ l. omega (arith, w .0)) (λ l. omega (arith, w .1)) u)
 
 -- a refused string has no number but 26 and 27, and no lists
 refused-number : (x : Bool) → (numberOf (cond x NotOfGrammar WrongSize) ≡ cond x 27 26) × (countOf (cond x NotOfGrammar WrongSize) ≡ 0)

@@ -1,30 +1,20 @@
 -- Demand 3, as one statement about a string and every number asked: `Demand3`, which proofs/Demand3.antt proves as `demand3`.
 -- Each answer is looked at through the string; what is then seen is that part of the one reading from which the grammar makes the string,
 -- and nothing exactly where that reading has no such part, as for every string that is refused.
-use Prim.Native.Nat.{ℕ, _≤_, _<_}
+use Prim.Native.Nat.{ℕ}
 use mathlib.Core.Path.{_≡_}
-use mathlib.Core.Logic.{_⊎_}
 use mathlib.Core.Bool.{cond}
 use mathlib.Core.List.{List}
 use mathlib.Core.Option.{Option, some, none, Option·map}
 use lib.ListN.{length, getElem?}
 use Rattle.field.specs.Number.{Bytes}
-use Rattle.policy_grammar.specs.Grammar.{bodyBytes, Element, Signature, Reading, Makes}
-use Rattle.policy_grammar.specs.Decode.{accepted, leastFile, largestFile, sized}
+use Rattle.policy_grammar.specs.Grammar.{bodyBytes, Element, Signature, Reading}
+use Rattle.policy_grammar.specs.Decode.{accepted}
+use Rattle.policy_grammar.specs.Sizes.{sized}
 use Rattle.policy_answers.specs.Answers.{fileShown, listsIn, elementsIn, listAnswer, keyAnswer, signatureAnswer, elementAnswer}
 use Rattle.policy_answers.specs.Seen.{numberOf, countOf, seenList, listPart, seenPart, signatureIn, seenElement, seenBody}
+use Rattle.policy_reader.specs.Readings.{IsReadingOf}
 use Rattle.policy.specs.declared.Answers.{Answers}
-
--- the grammar makes the string from the reading that is there, or from none
-abbrev pub MadeFrom : List ℕ → Option Reading → Type 0
-MadeFrom s none = (r : Reading) → Makes r s → ⊥
-MadeFrom s (some r) = Makes r s
-
--- o is the reading with which the string is accepted, of 36 to 65,536 bytes; no string of whatever length has two readings
-pub record IsReadingOf (s : List ℕ) (o : Option Reading) : Type 0 where
-  pub made : length s ≤ largestFile → MadeFrom s o
-  pub outside : (length s < leastFile) ⊎ (largestFile < length s) → o ≡ none
-  pub one : (r r′ : Reading) → Makes r s → Makes r′ s → r ≡ r′
 
 -- "26 for a string outside 36 to 65,536 bytes, else 27 or the reading"
 abbrev pub numberFor : List ℕ → Option Reading → ℕ

@@ -15,7 +15,7 @@ use Rattle.policy_answers.specs.declared.ElementAnswer.{ElementAnswer}
 use Rattle.policy_answers.specs.declared.ElementAnswer.the-variants.{Launch, Custom, Unjudged, Refused}
 use Rattle.policy_grammar.specs.Grammar.{Body, Element, elementBytes, Signing, PolicyList, listBytes, Reading}
 use Rattle.policy_grammar.specs.Grammar as Grammar
-use Rattle.policy_grammar.specs.Decode.{sized}
+use Rattle.policy_grammar.specs.Sizes.{sized}
 
 -- a string: 26 where its size is wrong, 27 where it is not of the grammar, and else 0 with the list count
 abbrev pub fileShown : List ℕ → Option Reading → FileAnswer

@@ -4,18 +4,12 @@ use mathlib.Core.Bool.{cond}
 use mathlib.Core.List.{List, []}
 use lib.ListN.{length, take, drop}
 use lib.Dec.{leb}
-use Rattle.policy_answers.specs.declared.PartAnswer.{PartAnswer}
-use Rattle.policy_answers.specs.declared.PartAnswer.the-variants.{At, Absent}
 use Rattle.policy_answers.specs.declared.ElementAnswer.{ElementAnswer}
 use Rattle.policy_answers.specs.declared.ElementAnswer.the-variants.{Launch, Custom, Unjudged, Refused}
 
 -- the bytes of a part that lies within the string; no bytes of one that does not
 unfoldable pub partAt : List ℕ → ℕ → ℕ → List ℕ
 partAt s start len = cond (leb (start + len) (length s)) (take len (drop start s)) []
-
-abbrev pub partOf : List ℕ → PartAnswer → List ℕ
-partOf s (At start len) = partAt s start len
-partOf s Absent = []
 
 -- the body of an element: its bytes after the first 12
 abbrev pub bodyOf : List ℕ → ElementAnswer → List ℕ

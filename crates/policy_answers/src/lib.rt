@@ -7,7 +7,6 @@ mod sizes;
 pub use parts::body;
 pub use parts::elements_of;
 pub use parts::key_of;
-pub use parts::part;
 pub use parts::part_at;
 pub use parts::signature_of;
 pub use sizes::digest_length;

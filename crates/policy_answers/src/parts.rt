@@ -5,7 +5,7 @@ use crate::PartAnswer;
 ghost use mathlib.Core.Path.{_≡_};
 ghost use lib.ListN.{drop};
 ghost use Rattle.policy_answers.specs.Answers.{elementsOf, keyOf, signatureOf};
-ghost use Rattle.policy_answers.specs.Parts.{partAt, partOf, bodyOf};
+ghost use Rattle.policy_answers.specs.Parts.{partAt, bodyOf};
 
 // The elements of a list.
 pub fn elements_of(l: ListAnswer) -> PartAnswer
@@ -75,16 +75,6 @@ pub fn part_at(s: &[u8], start: usize, len: usize) -> &[u8]
         return &s[..0];
     }
     &s[start..start + len]
-}
-
-// The bytes of a part; none where it is absent or not all in s.
-pub fn part(s: &[u8], p: PartAnswer) -> &[u8]
-    ensures { λ r. ⌜ now r ≡ partOf (now (s .entry)) p ⌝ }
-{
-    match p {
-        PartAnswer::At { start, len } => part_at(s, start, len),
-        PartAnswer::Absent => &s[..0],
-    }
 }
 
 // The bytes of an element after its first 12; none where they are not all in s.

@@ -1,5 +1,6 @@
 -- The grammar of policy files, their layout, and what is read by it.
 pub mod Grammar
+pub mod Sizes
 pub mod Format
 pub mod Layout
 pub mod Parser

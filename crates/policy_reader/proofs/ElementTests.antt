@@ -32,7 +32,7 @@ use Rattle.policy_grammar.proofs.Formats.{read-then, then-stands}
 use Rattle.policy_grammar.proofs.Soundness.{done-complete, rest-complete, filling-value, fills-with, fills-none}
 use Rattle.policy_grammar.proofs.Decoding.{digests-sound}
 use Rattle.policy_grammar.proofs.Heads.{Upto, upto-start, number-holds, number-wrong, last-value, last-filling, inside-value, exactly-none, Needs, any-needs, number-needs, at-offset}
-use Rattle.policy_answers.proofs.Slices.{from-offset}
+use Rattle.field.proofs.Laws.{from-offset}
 
 -- a count of 16 bits times a digest's length fits
 pub small-product : {m k : ℕ} → m < 65536 → k ≤ 64 → m * k < 2 ^ 64

@@ -14,13 +14,14 @@ use Rattle.policy_grammar.specs.Grammar.{PolicyList, Reading, markCharacters}
 use Rattle.policy_grammar.specs.Format.{Format, done, _>>=_, number, string, times}
 use Rattle.policy_grammar.specs.Parser.{valueOf, fault, read, filling, fills}
 use Rattle.policy_grammar.specs.Layout as Layout
-use Rattle.policy_grammar.specs.Decode.{whole, reading, accepted, sized}
+use Rattle.policy_grammar.specs.Decode.{whole, reading, accepted}
+use Rattle.policy_grammar.specs.Sizes.{sized}
 use Rattle.policy_answers.specs.Answers.{fileShown}
 use Rattle.policy_answers.specs.declared.FileAnswer.{FileAnswer}
 use Rattle.policy_answers.specs.declared.FileAnswer.the-variants.{Accepted, WrongSize, NotOfGrammar}
 use Rattle.policy_grammar.proofs.Soundness.{filling-value, fills-with, fills-none}
 use Rattle.policy_grammar.proofs.Heads.{Upto, upto-start, number-holds, number-wrong, string-holds, string-wrong, last-filling, inside-value, exactly-none}
-use Rattle.policy_answers.proofs.Slices.{from-offset}
+use Rattle.field.proofs.Laws.{from-offset}
 
 abbrev pub mark : List ℕ
 mark = markCharacters ++ (0 ∷ 0 ∷ 0 ∷ 0 ∷ [])

@@ -13,3 +13,4 @@ pub mod Places
 pub mod Seen
 mod Offsets
 pub mod Walk
+pub mod Readings

@@ -30,7 +30,7 @@ use Rattle.policy_answers.specs.declared.ListAnswer.the-variants as lists
 use Rattle.policy_grammar.proofs.Soundness.{reads-sound, filling-value, fills-with, fills-none}
 use Rattle.policy_grammar.proofs.Decoding.{signed-sound}
 use Rattle.policy_grammar.proofs.Heads.{Upto, upto-start, number-holds, number-wrong, string-holds, part-holds, part-none, last-value, value-after, Needs, any-needs, number-needs, at-offset}
-use Rattle.policy_answers.proofs.Slices.{from-offset}
+use Rattle.field.proofs.Laws.{from-offset}
 
 -- what signs a list
 abbrev keyRule : ℕ → ℕ → Bool

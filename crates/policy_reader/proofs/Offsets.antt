@@ -18,7 +18,7 @@ use Rattle.policy_answers.specs.declared.ListAnswer.{ListAnswer}
 use Rattle.policy_answers.specs.declared.ListAnswer.the-variants as lists
 use Rattle.policy_answers.specs.declared.ElementAnswer.{ElementAnswer}
 use Rattle.policy_answers.specs.declared.ElementAnswer.the-variants as elements
-use Rattle.policy_answers.proofs.Slices.{from-offset}
+use Rattle.field.proofs.Laws.{from-offset}
 use Rattle.policy_reader.proofs.ElementTests.{element-short}
 use Rattle.policy_reader.proofs.ListTests.{list-short}
 use Rattle.policy_reader.proofs.Standing.{Kind, list, element}

@@ -13,7 +13,8 @@ use Rattle.field.specs.Number.{Bytes, bytes}
 use Rattle.field.proofs.Laws.{length-bytes}
 use Rattle.policy_grammar.specs.Grammar.{All, Element, elementBytes, ValidElement, signingBytes, PolicyList, listBytes, ValidList, Reading, Makes, markCharacters}
 use Rattle.policy_grammar.specs.Parser.{Read, value, fault, valueOf}
-use Rattle.policy_grammar.specs.Decode.{reading, accepted, sized}
+use Rattle.policy_grammar.specs.Decode.{reading, accepted}
+use Rattle.policy_grammar.specs.Sizes.{sized}
 use Rattle.policy_answers.specs.Answers.{place}
 use Rattle.policy_reader.specs.Offsets.{StandsAt}
 use Rattle.policy_grammar.proofs.Decoding.{reading-sound, reading-complete}

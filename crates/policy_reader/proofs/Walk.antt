@@ -49,10 +49,6 @@ module _ (κ : Kind) (s : List ℕ) (at : ℕ) (a : κ .Value) (xs : List (κ .V
   pub walk-next : drop (at + κ .size (κ .shown at (some a))) s ≡ flatMap (κ .make) xs
   walk-next = rw (κ .size-is at a (v .0) .0) (next κ s at a xs v e)
 
--- nothing is left
-pub walk-end : (κ : Kind) (s : List ℕ) (at : ℕ) → drop at s ≡ flatMap (κ .make) [] → κ .shown at (valueOf (κ .parser (drop at s))) ≡ κ .missing
-walk-end κ s at e = ap (κ .shown at) (at-end κ s at e) ∙ sym (κ .none-shown at)
-
 -- what is seen of the answer for the first list: all its bytes and every field; and its elements stand in the string up to their end
 module _ (s : List ℕ) (at : ℕ) (l : PolicyList) (ls : List PolicyList) (v : All ValidList (l ∷ ls)) (e : drop at s ≡ flatMap listBytes (l ∷ ls)) where
   first : StandsAt listBytes ValidList s at l

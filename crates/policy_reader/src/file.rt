@@ -8,9 +8,10 @@ use policy_answers::FileAnswer;
 ghost use mathlib.Core.Path.{_≡_};
 ghost use Rattle.policy_grammar.specs.Decode.{accepted};
 ghost use Rattle.policy_answers.specs.Answers.{fileShown};
+ghost use Rattle.policy_reader.specs.Readings.{ReadExactly};
 
-// What the string s is: of a wrong size, not of the grammar, or accepted with the number of its lists.
-pub fn read(s: &[u8]) -> FileAnswer
+// The answer for s, by the tests in file order.
+fn tested(s: &[u8]) -> FileAnswer
     ensures { λ r. ⌜ r ≡ fileShown (now (s .entry)) (accepted (now (s .entry))) ⌝ }
 {
     if s.len() < LEAST_FILE {
@@ -36,4 +37,11 @@ pub fn read(s: &[u8]) -> FileAnswer
         return FileAnswer::NotOfGrammar;
     }
     FileAnswer::Accepted { lists }
+}
+
+// What the string s is: of a wrong size, not of the grammar, or accepted with the number of its lists.
+pub fn read(s: &[u8]) -> FileAnswer
+    ensures { λ r. ⌜ (r ≡ fileShown (now (s .entry)) (accepted (now (s .entry)))) × ReadExactly (now (s .entry)) r ⌝ }
+{
+    tested(s)
 }

@@ -11,10 +11,6 @@ use lib.Seq.{paste, take-paste, take-all, drop-at}
 use Rattle.sha256.specs.Message.{bigEndian, zeros, padding, numeral, PaddedBelow}
 use Rattle.sha256.proofs.BigEndian.{length-big, numeral-big}
 
-pub length-padding : (n : ℕ) → length (padding n) ≡ zeros n + 9
-unfolding padding
-length-padding n = simp (length-append, length-replicate) (omega (arith, length-big 8 (n * 8 % 2 ^ 64)))
-
 pub padded-exactly : PaddedBelow
 unfolding padding
 padded-exactly m below =

@@ -16,7 +16,7 @@ use Rattle.sinit.specs.declared.Chipset.{Chipset}
 use Rattle.sinit.specs.declared.ModuleData.{ModuleData}
 use Rattle.sinit.specs.declared.ModuleAnswer.the-variants.{Module, Refused}
 use Rattle.sinit.specs.Rules.{supported, rules, valuesOf, moduleOf, numberOf}
-use Rattle.sinit.specs.Meaning.{Supported, ModuleHolds, meanings, NumberIsFirst, PermittedExactly, RefusedExactly}
+use Rattle.sinit.specs.Meaning.{Supported, ModuleHolds, meanings, NumberIsFirst, AcceptedExactly, RefusedExactly}
 use Rattle.sinit.proofs.Conditions.{place-exactly, header-exactly, gdt-exactly, entry-exactly, selector-exactly, table-exactly, list-exactly, listed-exactly}
 
 different : (values : ModuleData) (n : ℕ) → Refused n ≡ Module values → ⊥
@@ -87,8 +87,8 @@ unfolding moduleOf
 number-is-first m base capacity c osSinitData =
     number-of Refused (Module (valuesOf m)) numberOf refl (λ n. refl) (firstFailing (rs m base capacity c osSinitData))
 
-pub permitted-exactly : PermittedExactly
-permitted-exactly m base capacity c osSinitData values =
+pub accepted-exactly : AcceptedExactly
+accepted-exactly m base capacity c osSinitData values =
     let answer = values-exactly m base capacity c osSinitData values in
     let hold = all-hold m base capacity c osSinitData in
     (λ e. let h = answer .0 e in (hold .0 (h .0), h .1), λ h. answer .1 (hold .1 (h .0), h .1))

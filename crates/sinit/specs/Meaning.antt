@@ -113,8 +113,8 @@ NumberIsFirst =
     → numberOf (moduleOf m base capacity c osSinitData) ≡ firstFailing (rules m base capacity c osSinitData)
 
 -- the module's values are answered exactly where every rule holds
-abbrev pub PermittedExactly : Type 0
-PermittedExactly =
+abbrev pub AcceptedExactly : Type 0
+AcceptedExactly =
     (m : List ℕ) (base capacity : ℕ) (c : Chipset) (osSinitData : ℕ) (values : ModuleData)
     → (moduleOf m base capacity c osSinitData ≡ Module values) ↔ (ModuleHolds m base capacity c osSinitData × (values ≡ valuesOf m))
 

@@ -6,17 +6,14 @@ use mathlib.Core.List.{List}
 use native.Mathlib.Omega.{arith}
 use borrow.Author.Needs.{needs}
 use borrow.Author.Tests.{le-leb, lt-leb, not-true, not-false}
-use lib.ListN.{length, take, drop, length-drop}
-use lib.Seq.{take-all}
+use lib.ListN.{length, take, drop}
+use Rattle.field.proofs.Laws.{from-offset}
 use Rattle.rules.specs.Rules.{answerFor}
 use Rattle.heap.specs.declared.OsSinitData.{OsSinitData}
 use Rattle.heap.specs.declared.HeapAnswer.the-variants.{OsSinit, Refused}
 use Rattle.heap.specs.Heap.{fieldsOf, afterSize, versionKnown, elementsEnd, pmrsPlaced, partAnswer}
 use Rattle.heap.proofs.judge.Statement.{statement}
 use Rattle.heap.proofs.judge.Tie as tie
-
-rest : (n : ℕ) (s : List ℕ) → take (length s - n) (drop n s) ≡ drop n s
-rest n s = take-all (length s - n) (drop n s) (omega (arith, length-drop n s))
 
 short : (part : List ℕ) → length part < 108 → Refused 3 ≡ partAnswer part
 unfolding partAnswer answerFor
@@ -26,7 +23,7 @@ short part h = rw (lt-leb 108 (length part) h)
 module _ (part s : List ℕ) (o : OsSinitData) (is-rest : s ≡ take (length part - 8) (drop 8 part)) (long : 108 ≤ length part)
     (is-fields : o ≡ fieldsOf s) (k : Bool) (is-known : k ≡ versionKnown (o .version)) where
   after : s ≡ afterSize part
-  after = is-rest ∙ rest 8 part
+  after = is-rest ∙ from-offset part 8
 
   from-version : partAnswer part ≡ answerFor Refused (OsSinit o) (cond k (cond (elementsEnd (drop 92 s)) (cond (pmrsPlaced o) 0 5) 4) 3)
   unfolding partAnswer
@@ -38,7 +35,7 @@ module _ (part s : List ℕ) (o : OsSinitData) (is-rest : s ≡ take (length par
 
   module _ (known : not k ≡ false) (e : Bool) (is-end : e ≡ elementsEnd (take (length s - 92) (drop 92 s))) where
     from-elements : partAnswer part ≡ answerFor Refused (OsSinit o) (cond e (cond (pmrsPlaced o) 0 5) 4)
-    from-elements = rw (from-version, not-false k known, is-end, rest 92 s)
+    from-elements = rw (from-version, not-false k known, is-end, from-offset s 92)
 
     unended : not e ≡ true → Refused 4 ≡ partAnswer part
     unfolding answerFor

@@ -23,7 +23,7 @@ returns : tie.Need-returns
 returns c =
     let at-read = c .before .before .before .before in
     answered _ (λ k. at-read .before .shared-slice-known .given k .fits) _ _ _
-    (at-read .read .ensures) (c .before .before .before .list .ensures) (c .before .before .key .ensures) (c .before .signature .ensures) (c .element .ensures)
+    (at-read .read .ensures .0) (c .before .before .before .list .ensures) (c .before .before .key .ensures) (c .before .signature .ensures) (c .element .ensures)
 
 pub ask-spec : {M : Type 1} → statement M
 ask-spec =

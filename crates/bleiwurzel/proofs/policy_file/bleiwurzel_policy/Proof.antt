@@ -20,17 +20,17 @@ enum-told-2 c = search needs
 
 returns : tie.Need-returns
 returns c =
-    let e = sym (c .before .before .n .given .1) ∙ c .before .before .before .before .read .ensures in
+    let e = sym (c .before .before .n .given .1) ∙ c .before .before .before .before .read .ensures .0 in
     (ap numberOf e, ap (λ a. countOf a ∷ []) e)
 
 returns-2 : tie.Need-returns-2
 returns-2 c =
-    let e = sym (c .before .enum-told .given .1) ∙ c .before .before .before .read .ensures in
+    let e = sym (c .before .enum-told .given .1) ∙ c .before .before .before .read .ensures .0 in
     (ap numberOf e, ap (λ a. countOf a ∷ []) e)
 
 returns-3 : tie.Need-returns-3
 returns-3 c =
-    let e = sym (c .before .enum-told2 .given .1) ∙ c .before .before .before .read .ensures in
+    let e = sym (c .before .enum-told2 .given .1) ∙ c .before .before .before .read .ensures .0 in
     (ap numberOf e, ap (λ a. countOf a ∷ []) e)
 
 pub bleiwurzel-policy-spec : {M : Type 1} → statement M

@@ -1,6 +1,4 @@
 -- `bleiwurzel_policy_list_at` meets its contract: the kind and the fields of the list at the offset.
-use mathlib.Core.Path.{ap, _∙_}
-use Rattle.bleiwurzel.specs.Policy.{listKind, listFields}
 use borrow.Author.Needs.{needs}
 use Rattle.bleiwurzel.proofs.policy_file.bleiwurzel_policy_list_at.Statement.{statement}
 use Rattle.bleiwurzel.proofs.policy_file.bleiwurzel_policy_list_at.Tie as tie
@@ -13,8 +11,12 @@ list-numbers-requires c κs = search needs
 
 returns : tie.Need-returns
 returns c =
-    let e = c .before .before .list-at .ensures .0 in
-    (c .list-numbers .ensures .0 ∙ ap listKind e, c .list-numbers .ensures .1 ∙ ap listFields e)
+    record {
+      answer = _;
+      exactly = c .before .before .list-at .ensures .1;
+      kind-is = c .list-numbers .ensures .0;
+      fields-are = c .list-numbers .ensures .1;
+    }
 
 pub bleiwurzel-policy-list-at-spec : {M : Type 1} → statement M
 bleiwurzel-policy-list-at-spec = tie.close (tie.spec list-at-requires list-numbers-requires returns)

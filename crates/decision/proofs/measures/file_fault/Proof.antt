@@ -20,7 +20,7 @@ enum-told : tie.Need-enum-told
 enum-told c = search needs
 
 hash-matches-requires : tie.Need-hash-matches-requires
-hash-matches-requires c κs = grammar-is _ _ _ (c .before .before .read .ensures) (c .enum-told .given .1)
+hash-matches-requires c κs = grammar-is _ _ _ (c .before .before .read .ensures .0) (c .enum-told .given .1)
 
 unless-requires : tie.Need-unless-requires
 unless-requires c κs = search needs
@@ -33,14 +33,14 @@ enum-told-3 c = search needs
 
 returns : tie.Need-returns
 returns c =
-    accepted _ _ _ _ _ (grammar-is _ _ _ (c .before .before .before .before .read .ensures) (c .before .before .enum-told .given .1))
+    accepted _ _ _ _ _ (grammar-is _ _ _ (c .before .before .before .before .read .ensures .0) (c .before .before .enum-told .given .1))
     (c .before .hash-matches .ensures) (c .unless .ensures)
 
 returns-2 : tie.Need-returns-2
-returns-2 c = refused _ _ _ (grammar-is _ _ _ (c .before .before .read .ensures) (c .enum-told2 .given .1))
+returns-2 c = refused _ _ _ (grammar-is _ _ _ (c .before .before .read .ensures .0) (c .enum-told2 .given .1))
 
 returns-3 : tie.Need-returns-3
-returns-3 c = refused _ _ _ (grammar-is _ _ _ (c .before .before .read .ensures) (c .enum-told3 .given .1))
+returns-3 c = refused _ _ _ (grammar-is _ _ _ (c .before .before .read .ensures .0) (c .enum-told3 .given .1))
 
 pub file-fault-spec : {M : Type 1} → statement M
 file-fault-spec =

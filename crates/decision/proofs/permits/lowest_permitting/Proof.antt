@@ -12,7 +12,7 @@ enum-told : tie.Need-enum-told
 enum-told c = search needs
 
 lowest-in-requires : tie.Need-lowest-in-requires
-lowest-in-requires c κs = grammar-is _ _ _ (c .before .before .read .ensures) (c .enum-told .given .1)
+lowest-in-requires c κs = grammar-is _ _ _ (c .before .before .read .ensures .0) (c .enum-told .given .1)
 
 enum-told-2 : tie.Need-enum-told-2
 enum-told-2 c = search needs
@@ -24,10 +24,10 @@ returns : tie.Need-returns
 returns c = search needs
 
 returns-2 : tie.Need-returns-2
-returns-2 c = none-permits _ _ (grammar-is _ _ _ (c .before .before .read .ensures) (c .enum-told2 .given .1))
+returns-2 c = none-permits _ _ (grammar-is _ _ _ (c .before .before .read .ensures .0) (c .enum-told2 .given .1))
 
 returns-3 : tie.Need-returns-3
-returns-3 c = none-permits _ _ (grammar-is _ _ _ (c .before .before .read .ensures) (c .enum-told3 .given .1))
+returns-3 c = none-permits _ _ (grammar-is _ _ _ (c .before .before .read .ensures .0) (c .enum-told3 .given .1))
 
 pub lowest-permitting-spec : {M : Type 1} → statement M
 lowest-permitting-spec =

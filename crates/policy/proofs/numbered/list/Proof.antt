@@ -22,7 +22,7 @@ enum-told-3 c = search needs
 returns : tie.Need-returns
 returns c =
     let at-read = c .before .before .before in
-    list-numbered _ (at-read .before .shared-slice-known .given) _ (at-read .read .ensures) _ (c .before .enum-told .given .1) _ _ (c .list-in .ensures)
+    list-numbered _ (at-read .before .shared-slice-known .given) _ (at-read .read .ensures .0) _ (c .before .enum-told .given .1) _ _ (c .list-in .ensures)
 
 returns-2 : tie.Need-returns-2
 returns-2 c = search (needs, none-in-wrong-size)

@@ -1,0 +1,39 @@
+#!/usr/bin/env bash
+# The longest capture that the program launch_check reads: one of 65,536 bytes is answered, and with one byte more it is 30, whether the byte
+# is part of the window or stands behind the capture. The captures are examples/any.cap with zeros at the end of its window.
+set -euo pipefail
+cd "$(dirname "$0")/.."
+example=examples/any.cap
+program=target/bin/launch_check
+expected=crates/launch_check/stdout
+
+# number AT: 32 bits of the example.
+number() { od -An -tu4 --endian=little -j "$1" -N 4 "$example" | tr -d ' '; }
+
+# grown BYTES: the example with a window so much longer that the capture has so many bytes. The window's length stands at offset 59, the window at 75.
+grown() {
+    local window more i
+    window=$(number 59)
+    more=$(($1 - $(stat -c %s "$example")))
+    head -c 59 "$example"
+    for i in 0 8 16 24; do printf '%b' "\\x$(printf %02x $((window + more >> i & 255)))"; done
+    tail -c +64 "$example" | head -c $((12 + window))
+    head -c "$more" /dev/zero
+    tail -c +$((76 + window)) "$example"
+}
+
+# answers FILE EXPECTED: that the capture in a file is answered so.
+answers() {
+    diff <(printf '%s\n' "$2") <("$program" <"$folder/$1") || { echo "capture_limits: not what was expected of $1" >&2; exit 1; }
+}
+
+folder=$(mktemp -d)
+trap 'rm -rf "$folder"' EXIT
+grown 65536 >"$folder/longest"
+grown 65537 >"$folder/longer"
+{ cat "$folder/longest"; echo; } >"$folder/one-behind"
+head -c 1000000 /dev/zero >"$folder/zeros"
+[ "$(stat -c %s "$folder/longest")" -eq 65536 ] || { echo "capture_limits: no capture of 65536 bytes" >&2; exit 1; }
+answers longest "$(cat "$expected")"
+for name in longer one-behind zeros; do answers "$name" "refused 30"; done
+echo "captures of up to 65536 bytes are read, and no longer ones"

@@ -88,6 +88,7 @@ run lcp2_crtpolelt
 run lcp2_crtpollist
 : >policy.data
 run lcp2_crtpol
+commands lcp2_crtpol | grep -e '--ctrl 0x02' >/dev/null || fail "the page has no command line for a record that admits a debug module"
 
 # What the page says of other elements: a legacy one does not permit, nor does a list with a custom element of tboot's.
 again=$(commands lcp2_crtpol | grep -- '--type list --alg')

@@ -60,6 +60,9 @@ pub const CUSTOM: u32 = 3;
 /// The type of the custom elements that tboot's tools write.
 pub const TBOOT_CUSTOM: u32 = 0x13;
 
+/// The algorithm by which a list names an image, and by which the record names the policy file.
+pub const SHA256: u16 = 0x000b;
+
 /// How many lists a policy file has, or 26 or 27.
 pub fn read(file: &[u8]) -> Result<usize, Refusal> {
     match ffi::policy(file) {
@@ -130,11 +133,11 @@ pub fn lists(file: &[u8]) -> impl Iterator<Item = (List, Vec<Element>)> + '_ {
     })
 }
 
-/// The elements of a list, in file order.
+/// The elements of a list, in file order; none where the list is of a longer file.
 pub fn elements(file: &[u8], list: &List) -> Vec<Element> {
     let mut at = list.elements.start;
     let next = || {
-        let element = element_at(&file[..list.elements.end], at)?;
+        let element = element_at(file.get(..list.elements.end)?, at)?;
         at = element.bytes.end;
         Some(element)
     };
@@ -157,7 +160,7 @@ pub fn hindrance(signed: bool, elements: impl Iterator<Item = (u64, u32)>) -> Op
 pub fn algorithm(hash_alg: u16) -> Option<(usize, &'static str)> {
     match hash_alg {
         0x0004 => Some((20, "SHA1")),
-        0x000b => Some((32, "SHA256")),
+        SHA256 => Some((32, "SHA256")),
         0x000c => Some((48, "SHA384")),
         0x000d => Some((64, "SHA512")),
         0x0012 => Some((32, "SM3_256")),

@@ -50,6 +50,19 @@ fn what_cannot_be_written_is_no_answer() {
     }
 }
 
+/// A reader that has gone away changes no status, except where a capture is written to it.
+#[test]
+fn a_reader_that_has_gone_away() {
+    let folder = folder("a_reader_that_has_gone_away");
+    let words = written(&folder, &image(&Shape::default()));
+    let make: Vec<&str> = ["capture", "make", "--output", "-"].into_iter().chain(words.iter().map(String::as_str)).collect();
+    let refused = stored("30-74-bytes.cap");
+    for (words, status) in [(&["refusals"][..], OK), (&["check", "--capture", &refused], REFUSED), (&make, MISUSE)] {
+        let ran = ran(in_bash("{ sleep 0.2; \"$0\" \"$@\"; echo $? >&2; } | true", words));
+        assert_eq!(ran.err.lines().last(), Some(status.to_string().as_str()), "{words:?}");
+    }
+}
+
 #[test]
 fn standard_input_is_a_file_everywhere() {
     let folder = folder("standard_input_is_a_file_everywhere");
@@ -216,6 +229,23 @@ fn a_capture_is_written_whole_or_not_at_all() {
     fs::remove_file(&output).expect("the file goes");
     assert_eq!(run(&words).status, OK);
     assert_eq!(run(&["check", "--capture", &output.to_string_lossy()]).status, OK);
+}
+
+#[test]
+fn what_is_said_of_a_file_that_is_there() {
+    let folder = folder("what_is_said_of_a_file");
+    let words = written(&folder, &image(&Shape::default()));
+    let (file, directory) = (folder.join("window.bin"), folder.to_string_lossy().into_owned());
+    for (output, remove) in [(&*file.to_string_lossy(), true), ("/dev/null", false), (&directory, false)] {
+        let ran = run_with(&["capture", "make"], &words, &["--output", output]);
+        assert_eq!(ran.status, MISUSE, "{output}");
+        assert!(ran.err.contains("choose another name") && ran.err.contains("remove it") == remove, "{}", ran.err);
+    }
+    let output = folder.join("made.cap").to_string_lossy().into_owned();
+    let words: Vec<&str> = words.iter().map(String::as_str).chain(["--output", &output]).collect();
+    let ran = ran(in_bash("\"$0\" capture make \"$@\" > /dev/full", &words));
+    assert!(ran.status == MISUSE && ran.err.contains("made.cap' was written, but "), "{}", ran.err);
+    assert_eq!(run(&["check", "--capture", &output]).status, OK);
 }
 
 /// A capture has the module's bytes as they stand, also where its header states another length.

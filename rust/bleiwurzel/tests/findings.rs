@@ -18,7 +18,7 @@ fn found(name: &str) -> Finding {
 /// Of an element with a wrong size, the size is named, which stands 4 bytes behind the type.
 #[test]
 fn the_offset_of_an_element_is_that_of_its_size() {
-    for name in ["04-P4-skipped-size-7.cap", "04-size-max.cap", "04-skipped-size-0.cap"] {
+    for name in ["04-P4-skipped-size-7.cap", "04-size-max.cap", "04-skipped-size-0.cap", "04-end-size-16-holds-end.cap"] {
         let finding = found(name);
         assert!(finding.place.ends_with(&format!("size (heap offset {:#x})", ELEMENTS + 4)), "{name}: {}", finding.place);
     }
@@ -185,13 +185,33 @@ fn a_module_without_end_is_not_held() {
     let folder = folder("a_module_without_end");
     let mut words = written(&folder, &image(&Shape::default()));
     words[5] = "/dev/zero".to_string();
-    let (small, large) = ("1048577 bytes or more", "0x20000000 + 0x100000000 = 0x120000000 or more");
+    let (small, large) = ("1048577 bytes or more", "0x20000000 + 0xe0000000 = 0x100000000 or more");
     for (capacity, found) in [("0x100000", small), ("0xffffffffffffffff", large)] {
         let words: Vec<&str> = words.iter().map(String::as_str).chain(["--acram-capacity", capacity]).collect();
         let ran = ran(in_bash("ulimit -v 400000; exec \"$0\" check \"$@\"", &words));
         assert_eq!((ran.status, ran.err.as_str()), (REFUSED, ""), "{capacity}");
         assert!(ran.out.starts_with("refused 6, "), "{capacity}: {}", ran.out);
         assert!(ran.out.contains(&format!("found     {found}\n")), "{capacity}: {}", ran.out);
+    }
+}
+
+/// A long module for which there is no room is no answer, and no abort: one with a wrong header, and one that states its length.
+#[test]
+fn a_module_without_room_is_no_answer() {
+    let folder = folder("a_module_without_room");
+    let length = 3u32 << 30;
+    for wrong in [true, false] {
+        let mut image = image(&Shape::default());
+        put(&mut image.sinit, 24, u64::from(length / 4), 4);
+        if wrong {
+            image.sinit[0] = 0;
+        }
+        let words = written(&folder, &image);
+        lengthen(&folder.join("sinit.bin"), u64::from(length));
+        let words: Vec<&str> = words.iter().map(String::as_str).chain(["--acram-capacity", "0xffffffff"]).collect();
+        let ran = ran(in_bash("ulimit -c 0; ulimit -v 400000; exec \"$0\" check \"$@\"", &words));
+        assert_eq!((ran.status, ran.out.as_str()), (MISUSE, ""), "{wrong}");
+        assert!(ran.err.contains("sinit.bin") && ran.err.contains("memory"), "{wrong}: {}", ran.err);
     }
 }
 

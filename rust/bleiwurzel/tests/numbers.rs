@@ -1,4 +1,4 @@
-//! The numbers of the rules stand in several languages. This holds the C header and the Rust crate to the definitions in the Rattle
+//! The numbers of the rules stand in several languages. This holds the C header, launch-check and the Rust crate to the definitions in the Rattle
 //! sources: `const NAME: TYPE = VALUE;` in crates/*/src and `name = VALUE` in crates/*/specs.
 //!
 //! Where a definition is renamed or moves to another crate, the table below is what changes.
@@ -202,6 +202,13 @@ fn c_has_the_same_numbers() {
             assert_eq!(define(name), Some(number.value), "{name}");
         }
     }
+}
+
+#[test]
+fn launch_check_copies_a_whole_capture() {
+    let script = std::fs::read_to_string(top().join("launch-check")).expect("the script");
+    let most = script.lines().find_map(|line| line.strip_prefix("most=")).and_then(value);
+    assert_eq!(most, Some(capture::MOST as u64));
 }
 
 #[test]

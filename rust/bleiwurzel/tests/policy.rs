@@ -135,6 +135,8 @@ fn at_an_offset() {
         assert_eq!((policy::list_at(&file, at), policy::element_at(&file, at)), (None, None), "offset {at}");
     }
     assert_eq!(policy::list_at(&file, policy::FIRST_LIST + 1), None);
+    assert_eq!(policy::elements(&file, &list).len(), 1);
+    assert_eq!(policy::elements(&file[..list.elements.end - 1], &list), [], "the list of a longer file");
 }
 
 #[test]

@@ -2,7 +2,7 @@
 
 use super::args::{self, Args, OUTPUT};
 use super::json::{hex, Json};
-use super::{check, files, help, misuse, names, platform, report, save, Misuse, Said, YES};
+use super::{check, files, help, misuse, names, platform, report, save, say, Misuse, Said, YES};
 use bleiwurzel::{capture, finding, text, Parts, Platform, Refusal};
 use std::ffi::{OsStr, OsString};
 
@@ -41,7 +41,12 @@ fn make(words: Vec<OsString>) -> Result<Said, Misuse> {
         }
     };
     save::write(output, &bytes, MAKE)?;
-    Ok(Said { text: wrote(output, bytes.len(), args.has("--json")), status: YES })
+    // Said here: where it cannot be, the file is there all the same.
+    say(&wrote(output, bytes.len(), args.has("--json"))).or_else(|error| {
+        let name = names::shown(output);
+        misuse(MAKE, format!("'{name}' was written, but that cannot be said on standard output: {error}"))
+    })?;
+    Ok(Said { text: String::new(), status: YES })
 }
 
 /// The file that is to be written.

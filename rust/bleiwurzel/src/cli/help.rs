@@ -103,8 +103,8 @@ fewer than 36 or more than 65536 bytes is refused with 26, one that is not of
 the grammar with 27, and then the field that is wrong is shown. Exit status 0
 or 1.
 
-Note that tboot's tools write custom elements with type 0x13, not 3. A list with
-such an element does not permit.
+What keeps a list from permitting, and what tboot's tools have to do with it:
+bleiwurzel refusals 29
 
 Examples:
   bleiwurzel policy list.data
@@ -132,12 +132,13 @@ bleiwurzel capture make: parts and platform to a capture file.
 Usage:
   bleiwurzel capture make --window FILE --heap FILE --sinit FILE
                           --policy-record FILE --platform FILE --output FILE
+                          [--json]
 
 Parts and platform are given as for bleiwurzel check; see its --help. Nothing is
 judged here: a capture may be of an image that is refused. A file that is there
 already is not overwritten, and the capture has its name only when it is whole.
-With --output - it goes to standard output. 75 bytes and the parts must be at
-most 65536.
+With --output - it goes to standard output, where --json cannot write too.
+75 bytes and the parts must be at most 65536.
 
 Example:
   bleiwurzel capture make --window window.bin --heap heap.bin \\

@@ -68,15 +68,23 @@ fn complain(message: &str) {
     let _ = writeln!(io::stderr(), "bleiwurzel: {message}");
 }
 
-/// Prints and gives the status. A reader that has gone away does not matter; what cannot be written otherwise does.
+/// Prints and gives the status.
 fn print(said: &Said) -> u8 {
-    let mut out = io::stdout().lock();
-    match out.write_all(said.text.as_bytes()).and_then(|()| out.flush()) {
-        Err(error) if error.kind() != ErrorKind::BrokenPipe => {
+    match say(&said.text) {
+        Ok(()) => said.status,
+        Err(error) => {
             complain(&format!("cannot write to standard output: {error}"));
             MISUSE
         }
-        _ => said.status,
+    }
+}
+
+/// Prints. A reader that has gone away does not matter; what cannot be written otherwise does.
+pub fn say(text: &str) -> io::Result<()> {
+    let mut out = io::stdout().lock();
+    match out.write_all(text.as_bytes()).and_then(|()| out.flush()) {
+        Err(error) if error.kind() != ErrorKind::BrokenPipe => Err(error),
+        _ => Ok(()),
     }
 }
 

@@ -4,12 +4,13 @@
 use super::{files, Misuse};
 use bleiwurzel::finding::{only_length, Length, HEADER_LENGTH};
 use bleiwurzel::{Platform, MOST_MODULE};
+use std::collections::TryReserveError;
 use std::ffi::OsStr;
-use std::io::{self, Read};
+use std::io::{self, ErrorKind, Read};
 
-/// No module is longer than this on the platform.
+/// No module is longer than this on the platform: it has a capacity, and a module ends below 2^32.
 pub fn most(platform: &Platform) -> u64 {
-    platform.acram_capacity.min(MOST_MODULE)
+    platform.acram_capacity.min(MOST_MODULE.saturating_sub(platform.sinit_base))
 }
 
 /// The module, read up to `most` bytes and one more. Where there are more, none are held: rule 6 refuses a module of that length as it does
@@ -31,8 +32,26 @@ fn bounded(file: impl Read, most: u64) -> io::Result<files::Contents> {
         return Ok(files::Contents { bytes: Vec::new(), length: Length { bytes: length, more: true } });
     }
     // The length alone matters of what was not held.
-    bytes.resize(length as usize, 0);
-    Ok(files::Contents { bytes, length: Length { bytes: length, more: false } })
+    Ok(files::Contents { bytes: lengthened(bytes, length as usize)?, length: Length { bytes: length, more: false } })
+}
+
+/// The bytes with zeros behind them. Those of `vec!` take no memory until they are read, unlike those of `resize`.
+fn lengthened(bytes: Vec<u8>, length: usize) -> io::Result<Vec<u8>> {
+    if bytes.len() == length {
+        return Ok(bytes);
+    }
+    drop(room(length).map_err(|error| io::Error::new(ErrorKind::OutOfMemory, error))?);
+    let mut whole = vec![0; length];
+    whole[..bytes.len()].copy_from_slice(&bytes);
+    Ok(whole)
+}
+
+/// Room for so many bytes. `vec!` ends the program where there is none, so this is asked first; inlined, the compiler could leave it out as unused.
+#[inline(never)]
+fn room(length: usize) -> Result<Vec<u8>, TryReserveError> {
+    let mut room = Vec::new();
+    room.try_reserve_exact(length)?;
+    Ok(room)
 }
 
 #[cfg(test)]
@@ -77,6 +96,23 @@ mod tests {
         module[0] = 3;
         let (bytes, length, _) = read(&module, 4096);
         assert_eq!((&bytes[..128], &bytes[128..], length), (&module[..128], &[0; 896][..], 1024));
+    }
+
+    /// The memory that this process holds now, in bytes.
+    fn resident() -> u64 {
+        let status = std::fs::read_to_string("/proc/self/status").expect("the status of this process");
+        let line = status.lines().find_map(|line| line.strip_prefix("VmRSS:")).expect("a line");
+        1024 * line.trim().trim_end_matches(" kB").parse::<u64>().expect("a number")
+    }
+
+    #[test]
+    fn what_is_not_held_takes_no_memory() {
+        let bytes = 256 << 20;
+        let before = resident();
+        let contents = bounded(io::repeat(0).take(bytes), bytes).expect("zeros are read");
+        let more = resident().saturating_sub(before);
+        assert_eq!(contents.bytes.len() as u64, bytes);
+        assert!(more < bytes / 4, "{more} bytes");
     }
 
     #[test]

@@ -62,7 +62,7 @@ fn hindrance(list: &List, elements: &[Element]) -> Option<String> {
     if let Some(hindrance) = policy::hindrance(list.signed.is_some(), kinds) {
         return Some(hindrance);
     }
-    let sha256 = |launch: &Launch| launch.hash_alg == 0x000b && launch.digests > 0;
+    let sha256 = |launch: &Launch| launch.hash_alg == policy::SHA256 && launch.digests > 0;
     if !elements.iter().filter_map(|element| element.launch.as_ref()).any(sha256) {
         return Some("no element of type 0x10 names a SHA-256 digest".to_string());
     }

@@ -17,7 +17,10 @@ pub fn write(path: &OsStr, bytes: &[u8], help: &'static str) -> Result<(), Misus
     match to_file(Path::new(path), bytes) {
         Ok(()) => Ok(()),
         Err(error) if error.kind() == ErrorKind::AlreadyExists => {
-            misuse(help, format!("'{name}' is there already; remove it or choose another name for --output"))
+            // What is no plain file, as a folder or /dev/null, is not for the caller to remove.
+            let plain = fs::symlink_metadata(path).map_or(false, |found| found.is_file());
+            let remove = if plain { "remove it or " } else { "" };
+            misuse(help, format!("'{name}' is there already; {remove}choose another name for --output"))
         }
         Err(error) => misuse(help, format!("cannot write '{name}': {error}")),
     }

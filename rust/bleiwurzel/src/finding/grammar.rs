@@ -46,7 +46,7 @@ pub fn read(file: &[u8], base: Option<u64>) -> Step<Vec<List>> {
     reader.fixed(32, &[0; 3], "the 3 zeros before the list count")?;
     let count = reader.number(35, 1, "the list count")?;
     need((1..=8).contains(&count), 27, reader.place("the list count", 35), "1 to 8", count.to_string())?;
-    let mut at = 36;
+    let mut at = policy::FIRST_LIST as u64;
     let mut lists = Vec::new();
     for index in 0..count {
         let list = reader.list(at, index)?;

@@ -99,10 +99,10 @@ fn elements(heap: &[u8], start: u64, end: u64) -> Step<()> {
         let kind = field(heap, at, 4);
         let size = field(heap, at + 4, 4);
         let found = format!("type {kind:#x}, size {size}");
-        if kind == 0 {
-            return need(size == 8, 4, place("the end element", 0), "type 0 with size 8", found);
-        }
         let of_size = place("size", 4);
+        if kind == 0 {
+            return need(size == 8, 4, of_size, "8, as the end element (type 0) has", found);
+        }
         need(size >= 8, 4, of_size.as_str(), "at least 8, since the size counts type and size", found.as_str())?;
         need(size <= left, 4, of_size, format!("at most {left}, the bytes left in OsSinitData"), found)?;
         at += size;

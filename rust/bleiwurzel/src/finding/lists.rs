@@ -6,6 +6,8 @@ use super::module::Module;
 use super::{bytes_of, digits, field, need, Finding, Length, Step};
 use crate::{policy, sha256, RECORD_LENGTH};
 
+const SHA256: u64 = policy::SHA256 as u64;
+
 pub struct Record {
     pub any: bool,
     control: u64,
@@ -20,7 +22,8 @@ pub fn record(record: &[u8], length: &Length) -> Step<Record> {
     let version = field(record, 0, 2);
     need(version >> 8 == 3, 23, "version, record offset 0", "high byte 3, as 0x0302", format!("{version:#06x}"))?;
     let algorithm = field(record, 2, 2);
-    need(algorithm == 0x000b, 23, "HashAlg, record offset 2", "0x000b (SHA256)", format!("{algorithm:#06x}"))?;
+    let expected = format!("{SHA256:#06x} (SHA256)");
+    need(algorithm == SHA256, 23, "HashAlg, record offset 2", expected, format!("{algorithm:#06x}"))?;
     let kind = field(record, 4, 1);
     need(kind <= 1, 23, "type, record offset 4", "0 (LIST) or 1 (ANY)", kind.to_string())?;
     Ok(Record {
@@ -126,7 +129,7 @@ fn objection(list: &List, file: &[u8], module: &Module, digest: &[u8; 32]) -> Op
         element
             .launch
             .as_ref()
-            .map_or(false, |launch| launch.hash_alg == 0x000b && launch.sinit_min_version <= module.acm_version)
+            .map_or(false, |launch| launch.hash_alg == SHA256 && launch.sinit_min_version <= module.acm_version)
     };
     let kinds = list.elements.iter().map(|element| (element.at, element.kind as u32));
     if let Some(hindrance) = policy::hindrance(list.key.is_some(), kinds) {
@@ -153,15 +156,15 @@ fn objection(list: &List, file: &[u8], module: &Module, digest: &[u8; 32]) -> Op
 /// What a list names instead of the digest.
 fn unnamed(list: &List) -> String {
     let launches: Vec<&Launch> = list.elements.iter().filter_map(|element| element.launch.as_ref()).collect();
-    let others = launches.iter().filter(|launch| launch.hash_alg == 0x000b).map(|launch| launch.digests.len()).sum::<usize>();
-    let by_others = launches.iter().filter(|launch| launch.hash_alg != 0x000b).map(|launch| launch.digests.len()).sum::<usize>();
+    let others = launches.iter().filter(|launch| launch.hash_alg == SHA256).map(|launch| launch.digests.len()).sum::<usize>();
+    let by_others = launches.iter().filter(|launch| launch.hash_alg != SHA256).map(|launch| launch.digests.len()).sum::<usize>();
     format!("it does not name the digest; it names {others} other by SHA-256 and {by_others} by other algorithms")
 }
 
-/// Whether this is a launch element with HashAlg 0x000B that names the digest.
+/// Whether this is a launch element that names the digest by SHA-256.
 fn names(element: &Element, file: &[u8], digest: &[u8; 32]) -> bool {
     element
         .launch
         .as_ref()
-        .map_or(false, |launch| launch.hash_alg == 0x000b && launch.digests.iter().any(|range| part(file, range) == digest))
+        .map_or(false, |launch| launch.hash_alg == SHA256 && launch.digests.iter().any(|range| part(file, range) == digest))
 }

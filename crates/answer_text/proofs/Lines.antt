@@ -8,7 +8,7 @@ use native.Mathlib.Omega.{arith}
 use borrow.Author.Tests.{lt-ltb, le-ltb, eq-eqb, ne-eqb}
 use lib.ListN.{length, take, drop, set, getD, length-drop}
 use lib.Seq.{take-suc, take-suc-set, take-all, drop-cons, drop-set-lt, getD-set-same, lt-length-set, append-snoc}
-use Rattle.launch.specs.declared.Answer.{Answer}
+use Rattle.answer.specs.declared.Answer.{Answer}
 use Rattle.answer_text.specs.Text.{LF, digit, hexDigit, digits, decimal, hex, permittedText, listText, refusedText, firstLine}
 
 -- DIGITS, FROM THE LAST TO THE FIRST

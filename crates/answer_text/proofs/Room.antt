@@ -8,7 +8,7 @@ use native.Mathlib.Omega.{arith}
 use borrow.Author.Tests.{le-leb}
 use lib.Dec.{ltb, eqb}
 use lib.ListN.{length, take, drop, length-append, length-take}
-use Rattle.launch.specs.declared.Answer.{Answer}
+use Rattle.answer.specs.declared.Answer.{Answer}
 use Rattle.answer_text.specs.Text.{LF, digit, digits, mostDigits, decimal, listText, permittedLine, refusedLine, firstLine, pageLines, shownPages, lentPlaces, lentOutput, output, fits, outputLength, outputIn, OutputFits}
 use Rattle.answer_text.proofs.Written.{lines-length}
 

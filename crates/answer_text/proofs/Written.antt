@@ -7,7 +7,7 @@ use native.Mathlib.Omega.{arith}
 use borrow.Author.Tests.{le-leb, lt-leb, eq-eqb, ne-eqb}
 use lib.ListN.{length, take, drop, getD, length-append}
 use lib.Seq.{length-take-le, paste, take-paste, drop-paste, take-add, drop-drop, take-at, take-all, drop-append-add, take-append-seam, drop-append-seam}
-use Rattle.launch.specs.declared.Answer.{Answer}
+use Rattle.answer.specs.declared.Answer.{Answer}
 use Rattle.answer_text.specs.Text.{hex, firstLine, pageLine, pageLines, shownPages, output, outputLength, outputIn, AtFront}
 
 -- TEXT BEHIND TEXT

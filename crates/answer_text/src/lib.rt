@@ -1,7 +1,7 @@
 // The text of the answer: the first line, the line of a page, and the whole output in a buffer that the caller lends.
 //
 // A line is written into an array by pieces, each behind the one before.
-use launch::Answer;
+use answer::Answer;
 ghost use mathlib.Core.Path.{_≡_};
 ghost use mathlib.Core.List.{[], _++_};
 ghost use Prim.Native.Nat.{_+_, _*_, _<_, _≤_};

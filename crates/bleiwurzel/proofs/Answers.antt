@@ -2,7 +2,7 @@
 use mathlib.Core.Path.{_≡_, ap}
 use mathlib.Core.List.{List}
 use Prim.Native.Nat.{ℕ}
-use Rattle.launch.specs.declared.Answer.{Answer}
+use Rattle.answer.specs.declared.Answer.{Answer}
 use Rattle.bleiwurzel.specs.Scalars.{countsOf, Given}
 
 pub as-given : (r due : Answer) (pages places : List ℕ) → r ≡ due → pages ≡ places → Given due places (r .number) pages (countsOf r) (r .digest)

@@ -3,7 +3,7 @@ use Prim.Native.Nat.{ℕ}
 use mathlib.Core.Path.{_≡_}
 use mathlib.Core.List.{List, [], _∷_}
 use Rattle.launch.specs.declared.Platform.{Platform}
-use Rattle.launch.specs.declared.Answer.{Answer}
+use Rattle.answer.specs.declared.Answer.{Answer}
 use Rattle.launch.specs.Rules.{Input}
 use Rattle.launch.specs.Answer.{answerOf, placesOf, measurementOf}
 

@@ -10,9 +10,10 @@ use Rattle.field.proofs.Laws.{marked-at}
 use Rattle.rules.specs.Rules.{all}
 use Rattle.rules.proofs.Tests.{_&_, each}
 use Rattle.launch.specs.declared.Platform.{Platform}
-use Rattle.launch.specs.declared.Answer.{Answer}
+use Rattle.answer.specs.declared.Answer.{Answer}
+use Rattle.answer.specs.Answer.{refused}
 use Rattle.launch.specs.Rules.{Input, inputOf}
-use Rattle.launch.specs.Answer.{refused, answerOf, placesOf}
+use Rattle.launch.specs.Answer.{answerOf, placesOf}
 use Rattle.launch.proofs.Demand1.{demand1}
 use Rattle.capture.specs.declared.Offsets.{Offsets}
 use Rattle.capture.specs.Capture.{platformOf, windowAt, offsetsOf, captureTests, CaptureExactly, notCapture, inputIn, captureAnswer, capturePlaces, NumberMost}

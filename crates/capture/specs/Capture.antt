@@ -9,9 +9,10 @@ use lib.ListN.{length, take, drop}
 use Rattle.field.specs.Field.{numberAt, markedAt}
 use Rattle.rules.specs.Rules.{all}
 use Rattle.launch.specs.declared.Platform.{Platform}
-use Rattle.launch.specs.declared.Answer.{Answer}
+use Rattle.answer.specs.declared.Answer.{Answer}
+use Rattle.answer.specs.Answer.{refused}
 use Rattle.launch.specs.Rules.{Input}
-use Rattle.launch.specs.Answer.{refused, answerOf, placesOf}
+use Rattle.launch.specs.Answer.{answerOf, placesOf}
 use Rattle.capture.specs.declared.Offsets.{Offsets}
 
 -- "mark `LPC`, 16-bit version 1"

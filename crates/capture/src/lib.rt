@@ -1,6 +1,6 @@
 // Capture files: all that the check is handed over, in one string, and the answer for it.
+use answer::Answer;
 use field::number_or_zero;
-use launch::Answer;
 use launch::Platform;
 ghost use mathlib.Core.Path.{_≡_};
 ghost use Prim.Native.Nat.{_<_, _≤_, _^_};
@@ -107,7 +107,7 @@ pub fn check(s: &[u8], pages: &mut [u64]) -> Answer
     ensures places { λ _. ⌜ now (pages .exit) ≡ capturePlaces (now (s .entry)) (now (pages .entry)) ⌝ }
 {
     if !holds(s) {
-        return launch::refused(NOT_CAPTURE);
+        return answer::refused(NOT_CAPTURE);
     }
     let at = offsets_in(s);
     let heap = at.heap;

@@ -6,7 +6,7 @@ use Rattle.rules.proofs.Tests.{_&_, each, eqb-exactly, leb-exactly, or-exactly,
 use Rattle.decision.specs.Record.{recordTests, policyType, LIST, ANY, bit, control, worthyOrAllowed, versionReached}
 use Rattle.decision.specs.Lists.{filePlaced, hashOf, hashMatches}
 use Rattle.decision.specs.Meaning.{RecordExactly, WorthyOrAllowedExactly, ReachedExactly, PlacedExactly, HashExactly}
-use Rattle.decision.proofs.Marks.{same-exactly}
+use Rattle.field.proofs.Laws.{same-exactly}
 use Rattle.decision.proofs.Readings.{lists-exactly}
 
 pub record-exactly : RecordExactly

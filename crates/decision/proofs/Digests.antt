@@ -10,7 +10,7 @@ use lib.Seq.{drop-drop}
 use Rattle.field.specs.Field.{same, markedAt}
 use Rattle.policy_answers.specs.Seen.{pieces}
 use Rattle.decision.specs.Lists.{any}
-use Rattle.decision.proofs.Marks.{marked-same}
+use Rattle.field.proofs.Laws.{marked-same}
 
 unfoldable pub namedFrom : List ℕ → List ℕ → ℕ → ℕ → Bool
 namedFrom digest b at left = any (same digest) (pieces left 32 (drop at b))

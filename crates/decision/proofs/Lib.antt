@@ -1,7 +1,6 @@
 -- The laws of the crate; other crates cite those that are public.
 -- Tests, and values of lists by their numbers.
 mod Members
-mod Marks
 -- What the rules say.
 pub mod Conditions
 pub mod RecordAnswers

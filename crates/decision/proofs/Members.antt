@@ -8,7 +8,8 @@ use mathlib.Core.Option.{some, none}
 use native.Mathlib.Omega.{arith}
 use lib.ListN.{length, getElem?}
 use Rattle.policy_grammar.specs.Grammar.{PolicyList}
-use Rattle.decision.specs.Lists.{every, any, noList, someFrom, lowestFrom}
+use Rattle.answer.specs.Answer.{noList}
+use Rattle.decision.specs.Lists.{every, any, someFrom, lowestFrom}
 use Rattle.rules.proofs.Tests.{or-exactly}
 
 module _ {A : Type 0} where

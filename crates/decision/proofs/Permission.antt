@@ -13,11 +13,12 @@ use Rattle.policy_grammar.specs.Grammar.{Body, Launch, Element, Signing, Policy
 use Rattle.policy_grammar.specs.Grammar as Grammar
 use Rattle.decision.specs.declared.Criteria.{Criteria}
 use Rattle.decision.specs.Record.{sha256Alg}
-use Rattle.decision.specs.Lists.{listsOf, launchType, customType, unsigned, judged, launchNames, names, permits, someFrom, somePermits, noList, lowestFrom, lowestPermitting}
+use Rattle.answer.specs.Answer.{noList}
+use Rattle.decision.specs.Lists.{listsOf, launchType, customType, unsigned, judged, launchNames, names, permits, someFrom, somePermits, lowestFrom, lowestPermitting}
 use Rattle.decision.specs.Meaning.{Names, Permits, PermitsAt, SomePermits, Lowest, Reads, PermitsExactly, LowestExactly, BodyFree}
 use Rattle.rules.proofs.Tests.{eqb-exactly, leb-exactly, or-exactly, and-exactly}
 use Rattle.decision.proofs.Members.{Member, every-exactly, any-exactly, Reported, Unreported, lowest-is}
-use Rattle.decision.proofs.Marks.{same-exactly}
+use Rattle.field.proofs.Laws.{same-exactly}
 use Rattle.decision.proofs.Readings.{lists-exactly, few, lists-few}
 
 launch-exactly : (k : Criteria) (b : Launch)

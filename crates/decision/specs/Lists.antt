@@ -8,6 +8,7 @@ use lib.ListN.{length, take, drop}
 use Rattle.field.specs.Field.{same}
 use Rattle.range.specs.Range.{insideOf}
 use Rattle.rules.specs.Rules.{all}
+use Rattle.answer.specs.Answer.{noList}
 use Rattle.sha256.specs.Message.{sha256}
 use Rattle.policy_grammar.specs.Grammar.{Body, Launch, Element, Signing, PolicyList, listBytes}
 use Rattle.policy_grammar.specs.Grammar as Grammar
@@ -105,9 +106,6 @@ unfoldable pub somePermits : List ℕ → Criteria → Bool
 somePermits file k = someFrom 0 (permits k) (listsOf file)
 
 -- "The lowest permitting list is reported." 255 where none permits
-abbrev pub noList : ℕ
-noList = 255
-
 unfoldable pub lowestFrom : ℕ → (ℕ → PolicyList → Bool) → List PolicyList → ℕ
 lowestFrom i test [] = noList
 lowestFrom i test (l ∷ ls) = cond (test i l) i (lowestFrom (suc i) test ls)

@@ -18,7 +18,8 @@ use Rattle.decision.specs.declared.Criteria.{Criteria}
 use Rattle.decision.specs.declared.RecordAnswer.the-variants as answers
 use Rattle.decision.specs.Record.{recordSize, versionHigh, knownVersion, hashAlg, sha256Alg, policyType, LIST, ANY, sinitMinVersion, control, policyHash, recordTests, worthyOrAllowed, versionReached, recordRules}
 use Rattle.decision.specs.Answers.{numberOf, recordOf, fileRules}
-use Rattle.decision.specs.Lists.{filePlaced, ofGrammar, listsOf, measure, hashMatches, launchType, customType, judged, names, somePermits, noList, lowestPermitting}
+use Rattle.answer.specs.Answer.{noList}
+use Rattle.decision.specs.Lists.{filePlaced, ofGrammar, listsOf, measure, hashMatches, launchType, customType, judged, names, somePermits, lowestPermitting}
 
 -- 23
 pub record Record (r : List ℕ) : Type 0 where

@@ -23,8 +23,5 @@ pub struct Criteria {
     pub acm_version: u64,
 }
 
-// The list number where no list permits.
-pub const NO_LIST: u32 = 255;
-
 // HashAlg of SHA-256.
 const SHA256_ALG: u64 = 0x000B;

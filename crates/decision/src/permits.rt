@@ -1,7 +1,7 @@
 // Which list of a file permits: rule 29.
 use crate::Criteria;
-use crate::NO_LIST;
 use crate::SHA256_ALG;
+use answer::NO_LIST;
 use policy_answers::ElementAnswer;
 use policy_answers::FileAnswer;
 use policy_answers::ListAnswer;

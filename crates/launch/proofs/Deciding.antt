@@ -14,7 +14,8 @@ use Rattle.rules.proofs.Answers.{permits, rule-refuses, rule-passes, group-refu
 use Rattle.mle.specs.Image.{imageDigest}
 use Rattle.decision.specs.declared.RecordAnswer.the-variants as records
 use Rattle.decision.specs.Record.{policyType, LIST, recordRules}
-use Rattle.decision.specs.Lists.{filePlaced, somePermits, noList, lowestPermitting}
+use Rattle.decision.specs.Lists.{filePlaced, somePermits, lowestPermitting}
+use Rattle.answer.specs.Answer.{noList}
 use Rattle.decision.specs.Answers.{recordOf, fileRules}
 use Rattle.decision.proofs.RecordAnswers.{list-exactly, any-exactly, refusal-exactly}
 use Rattle.decision.proofs.Permission.{reported-exactly}

@@ -11,9 +11,10 @@ use Rattle.rules.specs.Meaning.{FirstBroken}
 use Rattle.rules.proofs.Rules.{first-exactly, number-most}
 use Rattle.rules.proofs.Answers.{for-zero, for-other, number-of}
 use Rattle.mle.specs.Image.{pageList}
-use Rattle.launch.specs.declared.Answer.{Answer}
+use Rattle.answer.specs.declared.Answer.{Answer}
+use Rattle.answer.specs.Answer.{refused}
 use Rattle.launch.specs.Rules.{Input, image, rules}
-use Rattle.launch.specs.Answer.{refused, permitted, answerOf, placesOf}
+use Rattle.launch.specs.Answer.{permitted, answerOf, placesOf}
 use Rattle.launch.specs.Meaning.{meanings}
 use Rattle.launch.specs.Demand1.{Refusal, Demand1}
 use Rattle.launch.proofs.Order.{all-group}

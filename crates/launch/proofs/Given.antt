@@ -20,9 +20,10 @@ use Rattle.mle.specs.declared.Image.{Image}
 use Rattle.mle.specs.Image.{addressAt, addressesFrom, bytesFrom, imageDigest}
 use Rattle.mle.proofs.Pages.{AllInside, bytes-there, addresses-length, page-list-written, page-list-place}
 use Rattle.decision.specs.Record.{policyType, LIST, ANY}
-use Rattle.decision.specs.Lists.{noList, lowestPermitting}
+use Rattle.answer.specs.declared.Answer.{Answer}
+use Rattle.answer.specs.Answer.{noList}
+use Rattle.decision.specs.Lists.{lowestPermitting}
 use Rattle.decision.proofs.Permission.{lowest-exactly, lowest-most}
-use Rattle.launch.specs.declared.Answer.{Answer}
 use Rattle.launch.specs.Rules.{Input, os, memory, image, found, policyFile, criteria, rules}
 use Rattle.launch.specs.Answer.{answerOf, placesOf}
 use Rattle.launch.specs.Permitted.{N}

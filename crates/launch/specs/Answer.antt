@@ -5,16 +5,13 @@ use mathlib.Core.List.{List}
 use lib.Dec.{eqb}
 use lib.ListN.{replicate}
 use Rattle.rules.specs.Rules.{answerBy}
+use Rattle.answer.specs.declared.Answer.{Answer}
+use Rattle.answer.specs.Answer.{noList, refused}
 use Rattle.mle.specs.Image.{imageDigest, pageList}
 use Rattle.decision.specs.Record.{policyType, LIST}
-use Rattle.decision.specs.Lists.{noList, lowestPermitting}
-use Rattle.launch.specs.declared.Answer.{Answer}
+use Rattle.decision.specs.Lists.{lowestPermitting}
 use Rattle.launch.specs.declared.Found.{Found}
 use Rattle.launch.specs.Rules.{Input, policyFile, criteria, image, found, rules}
-
--- "A refusal has page count 0, list 255, digest all zero"
-abbrev pub refused : ℕ → Answer
-refused n = record { number = n; pages = 0; list = noList; digest = replicate 32 0 }
 
 -- "Under ANY the list is 255." Under LIST it is the lowest that permits
 abbrev pub listFor : List ℕ → List ℕ → Found → ℕ

@@ -8,7 +8,7 @@ use lib.ListN.{replicate}
 use Rattle.field.specs.Number.{Bytes}
 use Rattle.rules.specs.Rules.{Rule, Every, FirstFails}
 use Rattle.rules.specs.Meaning.{FirstBroken}
-use Rattle.decision.specs.Lists.{noList}
+use Rattle.answer.specs.Answer.{noList}
 use Rattle.launch.specs.Rules.{Input, rules}
 use Rattle.launch.specs.Answer.{answerOf, placesOf}
 use Rattle.launch.specs.Meaning.{meanings}

@@ -14,7 +14,7 @@ use Rattle.pages.specs.Memory.{pageOf, windowOf, regions}
 use Rattle.pages.specs.Meaning.{Within, Apart, Some, entry, Present}
 use Rattle.policy_grammar.specs.Grammar.{Reading, Makes}
 use Rattle.decision.specs.Record.{policyType, LIST, ANY}
-use Rattle.decision.specs.Lists.{noList}
+use Rattle.answer.specs.Answer.{noList}
 use Rattle.decision.specs.Meaning.{SomePermits, Lowest}
 use Rattle.launch.specs.Rules.{Input, os, moduleData, memory, found, policyFile, criteria}
 use Rattle.launch.specs.Answer.{answerOf, placesOf}

@@ -3,6 +3,7 @@ use Prim.Native.Nat.{ℕ}
 use mathlib.Core.List.{List, [], _∷_}
 use lib.ListN.{replicate}
 use Rattle.rules.specs.Rules.{Rule, rule, answerBy}
+use Rattle.answer.specs.Answer.{refused}
 use Rattle.heap.specs.declared.OsSinitData.{OsSinitData}
 use Rattle.sinit.specs.declared.ModuleData.{ModuleData}
 use Rattle.pages.specs.declared.Memory.{Memory}
@@ -14,7 +15,7 @@ use Rattle.launch.specs.declared.FindAnswer.{FindAnswer}
 use Rattle.launch.specs.declared.FindAnswer.the-variants.{Complete, Refused}
 use Rattle.launch.specs.declared.Outcome.{Outcome}
 use Rattle.launch.specs.Rules.{Input, imageRules, pageRules, imageFound, foundOf, found, findRules, policyFile, criteria, listRules, decideRules, rules}
-use Rattle.launch.specs.Answer.{refused, listFor, shown}
+use Rattle.launch.specs.Answer.{listFor, shown}
 
 -- WHAT THE LAUNCH FINDS
 

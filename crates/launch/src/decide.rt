@@ -1,14 +1,15 @@
 // What the policy decides, rules 23 to 29: the policy record, the policy file and its lists. The image is hashed once, where every rule before has
 // passed.
-use crate::Answer;
 use crate::Found;
 use crate::Outcome;
-use crate::refused;
+use answer::Answer;
+use answer::NO_LIST;
+use answer::refused;
 use decision::Criteria;
 use decision::RecordAnswer;
 use mle::Image;
 ghost use mathlib.Core.Path.{_≡_};
-ghost use Rattle.decision.specs.Lists.{noList};
+ghost use Rattle.answer.specs.Answer.{noList};
 ghost use Rattle.launch.specs.Inner as spec;
 
 // No pages, the answer of a refusal, and what it shows of the digest.
@@ -63,7 +64,7 @@ fn by_file(window: &[u8], file: &[u8], f: Found) -> Outcome
         acm_version: f.acm_version,
     };
     let list = decision::lowest_permitting(file, criteria);
-    if list == decision::NO_LIST {
+    if list == NO_LIST {
         return refusal_showing(29, digest);
     }
     permission(f, list, digest)
@@ -90,7 +91,7 @@ fn by_any(window: &[u8], f: Found) -> Outcome
     ensures { λ r. ⌜ r ≡ spec.permission (now (window .entry)) f noList ⌝ }
 {
     let image = f.image;
-    permission(f, decision::NO_LIST, mle::digest(window, image))
+    permission(f, NO_LIST, mle::digest(window, image))
 }
 
 // Rules 23 to 25, and 26 to 29 under LIST.

@@ -5,6 +5,7 @@
 mod decide;
 mod find;
 
+use answer::Answer;
 use decide::decide;
 use decide::refusal;
 use find::find;
@@ -13,7 +14,6 @@ use range::Range;
 ghost use mathlib.Core.Path.{_≡_};
 ghost use lib.ListN.{length};
 ghost use Rattle.launch.specs.Rules.{inputOf};
-ghost use Rattle.launch.specs.Answer as spec;
 ghost use Rattle.launch.specs.Answer.{answerOf, placesOf, measurementOf};
 ghost use Rattle.launch.specs.Inner.{outcomeOf};
 
@@ -28,14 +28,6 @@ pub struct Platform {
     pub vendor: u16,
     pub device: u16,
     pub revision: u16,
-}
-
-// The answer: the number, how many pages were written, the list that permits, and the digest of the pages.
-pub struct Answer {
-    pub number: u32,
-    pub pages: u32,
-    pub list: u32,
-    pub digest: [u8; 32],
 }
 
 // What the launch finds and the policy is asked about: the pages of the MLE, where the window begins, where the policy file stands, and the flags
@@ -59,18 +51,6 @@ pub struct Outcome {
     pub answer: Answer,
     pub image: Image,
     pub measurement: [u8; 32],
-}
-
-// The answer of a refusal: no pages, no list, a digest of zeros.
-pub fn refused(number: u32) -> Answer
-    ensures { λ r. ⌜ r ≡ spec.refused number ⌝ }
-{
-    Answer {
-        number,
-        pages: 0,
-        list: decision::NO_LIST,
-        digest: [0u8; 32],
-    }
 }
 
 // All rules, for a page list of so many places.
@@ -125,14 +105,6 @@ pub fn check(
     ensures answer { λ r. ⌜ r ≡ answerOf (inputOf (now (window .entry)) (now (heap .entry)) (now (sinit .entry)) (now («record» .entry)) platform (length (now (pages .entry)))) ⌝ }
     ensures places { λ _. ⌜ now (pages .exit) ≡ placesOf (inputOf (now (window .entry)) (now (heap .entry)) (now (sinit .entry)) (now («record» .entry)) platform (length (now (pages .entry)))) (now (pages .entry)) ⌝ }
 {
-    let mut measurement = [0u8; 32];
-    check_measured(
-        window,
-        heap,
-        sinit,
-        record,
-        platform,
-        pages,
-        &mut measurement,
-    )
+    let mut shown = [0u8; 32];
+    check_measured(window, heap, sinit, record, platform, pages, &mut shown)
 }

@@ -15,7 +15,7 @@ use Rattle.policy_answers.specs.declared.ElementAnswer.{ElementAnswer}
 use Rattle.policy_answers.specs.declared.ElementAnswer.the-variants.{Launch, Custom, Unjudged, Refused}
 use Rattle.policy_grammar.specs.Grammar.{Body, Element, elementBytes, Signing, PolicyList, listBytes, Reading}
 use Rattle.policy_grammar.specs.Grammar as Grammar
-use Rattle.policy_grammar.specs.Sizes.{sized}
+use Rattle.policy_grammar.specs.Sizes.{firstList, sized}
 
 -- a string: 26 where its size is wrong, 27 where it is not of the grammar, and else 0 with the list count
 abbrev pub fileShown : List ℕ → Option Reading → FileAnswer
@@ -82,10 +82,6 @@ elementsIn (some l) = l .elements
 -- the offset of the value number k of those that stand one after the other from `start` on
 abbrev pub place : {A : Type 0} → (A → List ℕ) → ℕ → List A → ℕ → ℕ
 place f start xs k = start + length (flatMap f (take k xs))
-
--- the lists stand behind the mark, the zeros and the list count
-abbrev pub firstList : ℕ
-firstList = 36
 
 abbrev pub listIn : ℕ → List PolicyList → ℕ → ListAnswer
 listIn start ls i = listShown (place listBytes start ls i) (getElem? ls i)

@@ -18,7 +18,8 @@ use Rattle.policy_grammar.specs.Grammar as Grammar
 use Rattle.policy_grammar.specs.Format.{done, string, any, anyBytes, rest, inside, times, many}
 use Rattle.policy_grammar.specs.Layout as Layout
 use Rattle.policy_grammar.specs.Parser.{value}
-use Rattle.policy_grammar.specs.Decode.{whole, reading}
+use Rattle.policy_grammar.specs.Layout.{whole}
+use Rattle.policy_grammar.specs.Decode.{reading}
 use Rattle.policy_grammar.specs.Fault.{Stands, MadeExactly}
 use Rattle.policy_grammar.proofs.Formats.{then-stands, read-stands, stands-read}
 use Rattle.policy_grammar.proofs.Soundness.{Sound, Made, Complete, bytes-left, then-sound, done-sound, done-complete, number-sound, number-complete, string-sound, string-complete, rest-sound, rest-complete, inside-sound, inside-complete, inside-left, times-sound, times-complete, many-sound, many-complete}

@@ -11,7 +11,8 @@ use lib.Dec.{leb, eqb}
 use borrow.Author.Tests.{leb-true}
 use Rattle.policy_grammar.specs.Format.{Format, done, field, part, bytesLeft}
 use Rattle.policy_grammar.specs.Parser.{Read, value, fault, Parser, after, continue, exactly, read}
-use Rattle.policy_grammar.specs.Decode.{whole, reading}
+use Rattle.policy_grammar.specs.Layout.{whole}
+use Rattle.policy_grammar.specs.Decode.{reading}
 use Rattle.policy_grammar.specs.Fault.{Stands, Reaches, FirstFault, FaultExactly}
 use Rattle.policy_grammar.proofs.Formats.{value-fault, exactly-value, long, read-stands, stands-read, field-reads, part-reads}
 

@@ -173,8 +173,8 @@ reads-complete f P F h a t p =
 
 -- values in a row
 module _ {A : Type 0} (f : A → List ℕ) (P : A → Type 0) (m : Format A) where
-  abbrev pub Counted : ℕ → List A → Type 0
-  Counted n l = All P l × (length l ≡ n)
+  abbrev pub SoMany : ℕ → List A → Type 0
+  SoMany n l = All P l × (length l ≡ n)
 
   module _ (others : Format (List A)) where
     abbrev row : Format (List A)
@@ -191,12 +191,12 @@ module _ {A : Type 0} (f : A → List ℕ) (P : A → Type 0) (m : Format A) whe
         rw append-assoc
         (then-stands _ m a _ _ (flatMap f l ++ t) t (h a (flatMap f l ++ t) p) (then-stands _ others l _ _ t t q (done-complete (a ∷ l) t)))
 
-  pub times-sound : Sound m (Made f P) → (n : ℕ) → Sound (times n m) (Made (flatMap f) (Counted n))
+  pub times-sound : Sound m (Made f P) → (n : ℕ) → Sound (times n m) (Made (flatMap f) (SoMany n))
   unfolding times flatMap
   times-sound h zero = done-sound [] _ ((tt, refl), refl)
-  times-sound h (suc n) = row-sound (times n m) (Counted n) (Counted (suc n)) h (times-sound h n) (λ a l p q. ((p, q .0), ap suc (q .1)))
+  times-sound h (suc n) = row-sound (times n m) (SoMany n) (SoMany (suc n)) h (times-sound h n) (λ a l p q. ((p, q .0), ap suc (q .1)))
 
-  pub times-complete : Complete f P m → (n : ℕ) → Complete (flatMap f) (Counted n) (times n m)
+  pub times-complete : Complete f P m → (n : ℕ) → Complete (flatMap f) (SoMany n) (times n m)
   unfolding times flatMap
   times-complete h zero [] t q = done-complete [] t
   times-complete h zero (a ∷ l) t q = absurd (omega (arith, q .1))

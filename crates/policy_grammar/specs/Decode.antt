@@ -5,7 +5,6 @@ use mathlib.Core.List.{List}
 use mathlib.Core.Option.{Option, none}
 use lib.ListN.{length}
 use Rattle.policy_grammar.specs.Grammar.{Element, PolicyList, Reading}
-use Rattle.policy_grammar.specs.Format.{Format, inside}
 use Rattle.policy_grammar.specs.Parser.{Read, Parser, valueOf, read}
 use Rattle.policy_grammar.specs.Layout as Layout
 use Rattle.policy_grammar.specs.Sizes.{sized}
@@ -16,12 +15,8 @@ element = read Layout.element
 abbrev pub list : Parser PolicyList
 list = read Layout.list
 
--- "nothing after"
-unfoldable pub whole : ℕ → Format Reading
-whole n = inside n Layout.file
-
 unfoldable pub reading : List ℕ → Read Reading
-reading s = read (whole (length s)) s
+reading s = read (Layout.whole (length s)) s
 
 -- the reading with which the reader accepts a string, forgetting where the first fault is in one that it refuses
 unfoldable pub accepted : List ℕ → Option Reading

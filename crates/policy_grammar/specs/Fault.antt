@@ -10,7 +10,8 @@ use Rattle.field.specs.Number.{Bytes}
 use Rattle.policy_grammar.specs.Format.{Format, done, field, part, bytesLeft}
 use Rattle.policy_grammar.specs.Parser.{fault}
 use Rattle.policy_grammar.specs.Grammar.{Reading, Makes}
-use Rattle.policy_grammar.specs.Decode.{whole, reading}
+use Rattle.policy_grammar.specs.Layout.{whole}
+use Rattle.policy_grammar.specs.Decode.{reading}
 
 -- all the fields stand at the front of s and obey their rules; a is their value, and t is left
 unfoldable pub Stands : {A : Type 0} → Format A → A → List ℕ → List ℕ → Type 0

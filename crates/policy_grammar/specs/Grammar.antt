@@ -162,6 +162,9 @@ unfoldable pub markCharacters : List ℕ
 markCharacters =
     73 ∷ 110 ∷ 116 ∷ 101 ∷ 108 ∷ 40 ∷ 82 ∷ 41 ∷ 32 ∷ 84 ∷ 88 ∷ 84 ∷ 32 ∷ 76 ∷ 67 ∷ 80 ∷ 95 ∷ 80 ∷ 79 ∷ 76 ∷ 73 ∷ 67 ∷ 89 ∷ 95 ∷ 68 ∷ 65 ∷ 84 ∷ 65 ∷ []
 
+abbrev pub mostLists : ℕ
+mostLists = 8
+
 pub record ValidReading (r : Reading) : Type 0 where
   -- "the 28 characters .. and 4 zeros; 3 zeros"
   pub marked : r .mark ≡ markCharacters
@@ -169,7 +172,7 @@ pub record ValidReading (r : Reading) : Type 0 where
   pub reserved-zeros : r .reserved ≡ 0 ∷ 0 ∷ 0 ∷ []
   -- "list count (8) 1 to 8"
   pub one-or-more : 1 ≤ r .listCount
-  pub eight-or-fewer : r .listCount ≤ 8
+  pub eight-or-fewer : r .listCount ≤ mostLists
   -- "that many lists"
   pub counted : length (r .lists) ≡ r .listCount
   pub lists-valid : All ValidList (r .lists)

@@ -6,7 +6,7 @@ use mathlib.Core.List.{List, [], _∷_, _++_}
 use lib.ListN.{take, drop}
 use lib.Dec.{leb, eqb}
 use Rattle.field.specs.Field.{same}
-use Rattle.policy_grammar.specs.Grammar.{Digests, Body, Element, digestLength, Signing, PolicyList, Reading, markCharacters}
+use Rattle.policy_grammar.specs.Grammar.{Digests, Body, Element, digestLength, Signing, PolicyList, Reading, markCharacters, mostLists}
 use Rattle.policy_grammar.specs.Grammar as Grammar
 use Rattle.policy_grammar.specs.Format.{Format, _>>=_, done, number, string, any, anyBytes, rest, inside, times, many}
 
@@ -67,6 +67,10 @@ unfoldable pub file : Format Reading
 file = do
   m ← string 32 (λ b. same b (markCharacters ++ (0 ∷ 0 ∷ 0 ∷ 0 ∷ [])))
   z ← string 3 (λ b. same b (0 ∷ 0 ∷ 0 ∷ []))
-  n ← number 1 (λ left n. leb 1 n && leb n 8)
+  n ← number 1 (λ left n. leb 1 n && leb n mostLists)
   ls ← times n list
   done (record { mark = take 28 m; markZeros = drop 28 m; reserved = z; listCount = n; lists = ls })
+
+-- "nothing after"
+unfoldable pub whole : ℕ → Format Reading
+whole n = inside n file

@@ -1,13 +1,17 @@
--- How many bytes a policy file has.
+-- Where the lists of a policy file begin, and how many bytes it has.
 use Prim.Native.Nat.{ℕ}
 use mathlib.Core.Bool.{Bool, _&&_}
 use mathlib.Core.List.{List}
 use lib.ListN.{length}
 use lib.Dec.{leb}
 
--- "36 to 65,536 bytes"
+-- the lists stand behind the mark, the zeros and the list count
+abbrev pub firstList : ℕ
+firstList = 36
+
+-- "36 to 65,536 bytes": no file is shorter than what stands before its lists
 abbrev pub leastFile : ℕ
-leastFile = 36
+leastFile = firstList
 
 abbrev pub largestFile : ℕ
 largestFile = 65536

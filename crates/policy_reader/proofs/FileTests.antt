@@ -14,7 +14,8 @@ use Rattle.policy_grammar.specs.Grammar.{PolicyList, Reading, markCharacters}
 use Rattle.policy_grammar.specs.Format.{Format, done, _>>=_, number, string, times}
 use Rattle.policy_grammar.specs.Parser.{valueOf, fault, read, filling, fills}
 use Rattle.policy_grammar.specs.Layout as Layout
-use Rattle.policy_grammar.specs.Decode.{whole, reading, accepted}
+use Rattle.policy_grammar.specs.Layout.{whole}
+use Rattle.policy_grammar.specs.Decode.{reading, accepted}
 use Rattle.policy_grammar.specs.Sizes.{sized}
 use Rattle.policy_answers.specs.Answers.{fileShown}
 use Rattle.policy_answers.specs.declared.FileAnswer.{FileAnswer}

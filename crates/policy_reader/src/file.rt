@@ -10,6 +10,9 @@ ghost use Rattle.policy_grammar.specs.Decode.{accepted};
 ghost use Rattle.policy_answers.specs.Answers.{fileShown};
 ghost use Rattle.policy_reader.specs.Readings.{ReadExactly};
 
+// The most lists of a file.
+const MOST_LISTS: usize = 8;
+
 // The answer for s, by the tests in file order.
 fn tested(s: &[u8]) -> FileAnswer
     ensures { λ r. ⌜ r ≡ fileShown (now (s .entry)) (accepted (now (s .entry))) ⌝ }
@@ -30,7 +33,7 @@ fn tested(s: &[u8]) -> FileAnswer
     if lists < 1 {
         return FileAnswer::NotOfGrammar;
     }
-    if 8 < lists {
+    if MOST_LISTS < lists {
         return FileAnswer::NotOfGrammar;
     }
     if !lists_fill(&s[FIRST_LIST..], lists) {

@@ -15,7 +15,7 @@ pub use lists::list_at;
 // The offset of the first list of every file.
 pub const FIRST_LIST: usize = 36;
 
-// The least and the largest size of a file.
-pub const LEAST_FILE: usize = 36;
+// The least and the largest size of a file: none is shorter than what stands before its lists.
+pub const LEAST_FILE: usize = FIRST_LIST;
 
 pub const LARGEST_FILE: usize = 65536;

@@ -4,6 +4,7 @@ use mathlib.Core.List.{List, [], _∷_, _++_}
 use lib.ListN.{length}
 use Rattle.field.specs.Number.{bytes}
 use Rattle.range.specs.declared.Range.{Range}
+use Rattle.range.specs.Range.{pageSize}
 use Rattle.pages.specs.declared.Memory.{Memory}
 use Rattle.proved_cases.specs.Modules.{zeros}
 
@@ -18,9 +19,9 @@ abbrev pub entryBytes : List ℕ → List ℕ
 entryBytes [] = []
 entryBytes (e ∷ es) = bytes 8 e ++ entryBytes es
 
--- a table of 4,096 bytes with these entries first, and zeros after them
+-- a table of one page with these entries first, and zeros after them
 unfoldable pub tableWith : List ℕ → List ℕ
-tableWith es = entryBytes es ++ zeros (4096 - 8 * length es)
+tableWith es = entryBytes es ++ zeros (pageSize - 8 * length es)
 
 abbrev pub windowBase : ℕ
 windowBase = 0x101000

@@ -4,11 +4,13 @@
 use crate::{ffi, Refusal};
 use std::ops::Range;
 
-/// The least and the greatest number of bytes of a policy file.
-pub const LEAST: usize = 36;
-pub const MOST: usize = 65_536;
 /// The offset of the first list of every policy file.
 pub const FIRST_LIST: usize = 36;
+/// The least and the greatest number of bytes of a policy file: none is shorter than what stands before its lists.
+pub const LEAST: usize = FIRST_LIST;
+pub const MOST: usize = 65_536;
+/// The most lists of a policy file.
+pub const MOST_LISTS: u64 = 8;
 
 /// What a policy file begins with.
 pub const MARK: &str = "Intel(R) TXT LCP_POLICY_DATA";

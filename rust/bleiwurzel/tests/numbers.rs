@@ -54,10 +54,12 @@ const NUMBERS: &[Number] = &[
     Number { value: MOST_CHIPSETS, rattle: &["sinit::MOST_ENTRIES", "sinit::mostEntries"], macros: &[], said: nothing },
     Number {
         value: MOST_PAGES as u64,
-        rattle: &["MOST_PAGES", "mostPages", "PLACES", "lentPlaces"],
+        rattle: &["MOST_PAGES", "mostPages"],
         macros: &["BLEIWURZEL_MOST_PAGES"],
         said: |n| vec![format!("or over {n} pages")],
     },
+    // what the programs for captures lend, a number of their own: docs/DECISIONS.md
+    Number { value: 4096, rattle: &["PLACES", "lentPlaces"], macros: &[], said: nothing },
     Number { value: MOST_TABLES as u64, rattle: &["MOST_TABLES", "mostTables"], macros: &[], said: nothing },
     Number {
         value: RECORD_LENGTH as u64,
@@ -67,7 +69,7 @@ const NUMBERS: &[Number] = &[
     },
     Number {
         value: policy::LEAST as u64,
-        rattle: &["LEAST_FILE", "leastFile"],
+        rattle: &["FIRST_LIST", "firstList"],
         macros: &["BLEIWURZEL_LEAST_POLICY"],
         said: |n| vec![format!("its size is not {n} to"), format!("it does not have {n} to")],
     },
@@ -83,6 +85,7 @@ const NUMBERS: &[Number] = &[
         macros: &["BLEIWURZEL_FIRST_LIST"],
         said: nothing,
     },
+    Number { value: policy::MOST_LISTS, rattle: &["MOST_LISTS", "mostLists"], macros: &[], said: nothing },
     Number {
         value: NO_LIST as u64,
         rattle: &["NO_LIST", "noList"],

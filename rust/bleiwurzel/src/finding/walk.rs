@@ -21,7 +21,7 @@ impl Memory {
         Memory {
             window: range(platform.window_base, parts.window.len()),
             forbidden: [
-                ("the hole below 1 MiB", Range { base: 0xa0000, size: 0x60000 }),
+                ("the range below 1 MiB", Range { base: 0xa0000, size: 0x60000 }),
                 ("the heap", range(platform.heap_base, parts.heap.len())),
                 ("the SINIT module", range(platform.sinit_base, parts.sinit.len())),
             ],

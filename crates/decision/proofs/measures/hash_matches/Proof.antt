@@ -8,7 +8,7 @@ use lib.ListN.{length}
 use Rattle.field.specs.Field.{same, markedAt}
 use Rattle.decision.specs.Record.{policyHash}
 use Rattle.decision.specs.Lists.{hashMatches}
-use Rattle.decision.proofs.Marks.{marked-same}
+use Rattle.field.proofs.Laws.{marked-same}
 use borrow.Author.Needs.{needs}
 use Rattle.decision.proofs.measures.hash_matches.Statement.{statement}
 use Rattle.decision.proofs.measures.hash_matches.Tie as tie

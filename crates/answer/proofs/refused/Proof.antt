@@ -1,7 +1,7 @@
 -- `refused` meets its contract: no pages, list 255, a digest of zeros.
 use mathlib.Core.Path.{refl}
-use Rattle.launch.proofs.refused.Statement.{statement}
-use Rattle.launch.proofs.refused.Tie as tie
+use Rattle.answer.proofs.refused.Statement.{statement}
+use Rattle.answer.proofs.refused.Tie as tie
 
 returns : tie.Need-returns
 returns c = refl

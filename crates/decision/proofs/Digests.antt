@@ -9,7 +9,7 @@ use lib.ListN.{length, drop}
 use lib.Seq.{drop-drop}
 use Rattle.field.specs.Field.{same, markedAt}
 use Rattle.policy_answers.specs.Seen.{pieces}
-use Rattle.decision.specs.Lists.{any}
+use Rattle.rules.specs.Tests.{any}
 use Rattle.field.proofs.Laws.{marked-same}
 
 unfoldable pub namedFrom : List ℕ → List ℕ → ℕ → ℕ → Bool

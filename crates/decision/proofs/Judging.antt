@@ -15,7 +15,8 @@ use Rattle.policy_answers.specs.Seen.{seenElement}
 use Rattle.policy_reader.proofs.Standing as kinds
 use Rattle.policy_reader.proofs.Walk.{Front, element-seen, elements-within, elements-stand}
 use Rattle.decision.specs.declared.Criteria.{Criteria}
-use Rattle.decision.specs.Lists.{every, any, judged, names, permits}
+use Rattle.rules.specs.Tests.{every, any}
+use Rattle.decision.specs.Lists.{judged, names, permits}
 use Rattle.decision.specs.Inner.{judgedAnswer, namesSeen, Counted, ElementsStand, ListStands}
 use Rattle.decision.proofs.Naming.{judged-is, counted-is}
 

@@ -9,7 +9,8 @@ use native.Mathlib.Omega.{arith}
 use lib.ListN.{length, getElem?}
 use Rattle.policy_grammar.specs.Grammar.{PolicyList}
 use Rattle.answer.specs.Answer.{noList}
-use Rattle.decision.specs.Lists.{every, any, someFrom, lowestFrom}
+use Rattle.rules.specs.Tests.{every, any}
+use Rattle.decision.specs.Lists.{someFrom, lowestFrom}
 use Rattle.rules.proofs.Tests.{or-exactly}
 
 module _ {A : Type 0} where

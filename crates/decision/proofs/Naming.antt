@@ -17,7 +17,8 @@ use Rattle.policy_answers.specs.Answers.{elementShown}
 use Rattle.policy_answers.specs.Parts.{partAt}
 use Rattle.policy_answers.specs.Seen.{pieces, seenElement}
 use Rattle.decision.specs.declared.Criteria.{Criteria}
-use Rattle.decision.specs.Lists.{any, launchType, customType, judged, names}
+use Rattle.rules.specs.Tests.{any}
+use Rattle.decision.specs.Lists.{launchType, customType, judged, names}
 use Rattle.decision.specs.Inner.{judgedAnswer, namesSeen, Counted}
 
 -- an element of another type names nothing

@@ -7,6 +7,7 @@ use lib.Dec.{leb, eqb}
 use lib.ListN.{length, take, drop}
 use Rattle.field.specs.Field.{same}
 use Rattle.range.specs.Range.{insideOf}
+use Rattle.rules.specs.Tests.{every, any}
 use Rattle.rules.specs.Rules.{all}
 use Rattle.answer.specs.Answer.{noList}
 use Rattle.sha256.specs.Message.{sha256}
@@ -17,15 +18,6 @@ use Rattle.policy_grammar.specs.Decode.{accepted}
 use Rattle.policy_grammar.specs.Sizes.{leastFile, largestFile}
 use Rattle.decision.specs.declared.Criteria.{Criteria}
 use Rattle.decision.specs.Record.{policyHash, sha256Alg}
-
--- a test holds of every value, of some value
-abbrev pub every : {A : Type 0} → (A → Bool) → List A → Bool
-every test [] = true
-every test (x ∷ xs) = test x && every test xs
-
-abbrev pub any : {A : Type 0} → (A → Bool) → List A → Bool
-any test [] = false
-any test (x ∷ xs) = test x || any test xs
 
 -- 26. "policy file not wholly in the window, or its size not 36 to 65,536"
 -- w is the window, which begins at `window`; the file has `size` bytes at `base`

@@ -15,7 +15,8 @@ ghost use Rattle.field.specs.Field.{same};
 ghost use Rattle.policy_grammar.specs.Grammar.{Element, PolicyList};
 ghost use Rattle.policy_answers.specs.Seen.{pieces, seenElement};
 ghost use Rattle.decision.specs.Lists as spec;
-ghost use Rattle.decision.specs.Lists.{every, any, ofGrammar, permits, lowestPermitting};
+ghost use Rattle.rules.specs.Tests.{every, any};
+ghost use Rattle.decision.specs.Lists.{ofGrammar, permits, lowestPermitting};
 ghost use Rattle.decision.specs.Inner.{judgedAnswer, namesSeen, Counted, ElementsStand, ListStands};
 
 // The offset of the first digest in the body of a launch element.

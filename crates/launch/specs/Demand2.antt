@@ -8,10 +8,11 @@ use lib.ListN.{length, take, drop, getD}
 use Rattle.range.specs.Range.{pageSize}
 use Rattle.field.specs.Number.{Bytes}
 use Rattle.sha256.specs.Message.{sha256}
+use Rattle.rules.specs.Rules.{Some}
 use Rattle.pages.specs.declared.Kind.the-variants.{Page}
 use Rattle.pages.specs.Entry.{addressOf}
 use Rattle.pages.specs.Memory.{pageOf, windowOf, regions}
-use Rattle.pages.specs.Meaning.{Within, Apart, Some, entry, Present}
+use Rattle.pages.specs.Meaning.{Within, Apart, entry, Present}
 use Rattle.policy_grammar.specs.Grammar.{Reading, Makes}
 use Rattle.decision.specs.Record.{policyType, LIST, ANY}
 use Rattle.answer.specs.Answer.{noList}

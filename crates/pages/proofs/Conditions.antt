@@ -1,26 +1,26 @@
 -- The tests of the rules say what the propositions of the meaning say.
 use Prim.Native.Nat.{ℕ, _%_, _<_}
-use mathlib.Core.Path.{_≡_, refl}
+use mathlib.Core.Path.{_≡_}
 use mathlib.Core.Logic.{_↔_}
-use mathlib.Core.Bool.{true, false≢true}
+use mathlib.Core.Bool.{true}
 use mathlib.Core.List.{List, [], _∷_}
 use lib.Dec.{lit<}
 use Rattle.range.specs.declared.Range.{Range}
 use Rattle.range.specs.Range.{insideOf, clearOf, pageSize}
-use Rattle.rules.specs.Rules.{AllHold}
+use Rattle.rules.specs.Rules.{Every, Some, AllHold}
 use Rattle.rules.specs.Meaning.{AllSay}
 use Rattle.rules.proofs.Meaning.{Agree, all-say, agrees, agree-append}
-use Rattle.rules.proofs.Tests.{_&_, and-exactly, or-exactly, eqb-exactly, ltb-exactly}
+use Rattle.rules.proofs.Tests.{_&_, eqb-exactly, ltb-exactly, every-exactly, any-exactly}
 use Rattle.range.proofs.Ranges.{inside-exactly, clear-exactly}
 use Rattle.pages.specs.declared.Kind.{Kind}
 use Rattle.pages.specs.declared.Kind.the-variants.{Pointer, Directory, Page}
 use Rattle.pages.specs.declared.Memory.{Memory}
 use Rattle.pages.specs.declared.levels.State.{State}
 use Rattle.pages.specs.Entry.{addressOf}
-use Rattle.pages.specs.Memory.{pageOf, windowOf, forbidden, regions, every, some, allowed, protected}
+use Rattle.pages.specs.Memory.{pageOf, windowOf, forbidden, regions, allowed, protected}
 use Rattle.pages.specs.Tables.{Found, found}
 use Rattle.pages.specs.Rules.{startOf, afterEntry, baseRules, ownRules, entryRules, rulesFrom, walkRules}
-use Rattle.pages.specs.Meaning.{Within, Apart, Every, Some, Reserved, Placed, baseMeanings, ownMeanings, entryMeanings, meaningsFrom, walkMeanings}
+use Rattle.pages.specs.Meaning.{Within, Apart, Reserved, Placed, baseMeanings, ownMeanings, entryMeanings, meaningsFrom, walkMeanings}
 use Rattle.pages.proofs.Tests.{follows-exactly}
 use Rattle.pages.proofs.Bits.{reserved-exactly}
 
@@ -29,21 +29,13 @@ use Rattle.pages.proofs.Bits.{reserved-exactly}
 within-exactly : (a b : Range) → 0 < a .size → (insideOf a b ≡ true) ↔ Within a b
 within-exactly a b z = (inside-exactly a b .0, inside-exactly a b .1 z)
 
-every-exactly : (a : Range) (rs : List Range) → (every (clearOf a) rs ≡ true) ↔ Every (Apart a) rs
-every-exactly a [] = (λ e. tt, λ h. refl)
-every-exactly a (r ∷ rs) = and-exactly (clear-exactly a r) (every-exactly a rs)
-
-some-exactly : (a : Range) (rs : List Range) → 0 < a .size → (some (insideOf a) rs ≡ true) ↔ Some (Within a) rs
-some-exactly a [] z = (λ e. absurd (false≢true e), λ h. absurd h)
-some-exactly a (r ∷ rs) z = or-exactly (within-exactly a r z) (some-exactly a rs z)
-
 pub protected-exactly : (m : Memory) (a : ℕ) → (protected m a ≡ true) ↔ Some (Within (pageOf a)) (regions m)
 unfolding protected
-protected-exactly m a = some-exactly (pageOf a) (regions m) (lit< tt)
+protected-exactly m a = any-exactly (insideOf (pageOf a)) (Within (pageOf a)) (λ r. within-exactly (pageOf a) r (lit< tt)) (regions m)
 
 allowed-exactly : (m : Memory) (a : ℕ) → (allowed m a ≡ true) ↔ Every (Apart (pageOf a)) (forbidden m)
 unfolding allowed
-allowed-exactly m a = every-exactly (pageOf a) (forbidden m)
+allowed-exactly m a = every-exactly (clearOf (pageOf a)) (Apart (pageOf a)) (clear-exactly (pageOf a)) (forbidden m)
 
 -- RULES AND MEANINGS
 

@@ -8,7 +8,7 @@ use native.Mathlib.Omega.{arith}
 use borrow.Author.Count.{below-more}
 use borrow.Author.Tests.{eqb-true, eqb-false}
 use lib.Dec.{eqb}
-use Rattle.rules.specs.Rules.{AllHold}
+use Rattle.rules.specs.Rules.{Some, AllHold}
 use Rattle.rules.specs.Meaning.{AllSay}
 use Rattle.pages.specs.declared.Kind.{Kind}
 use Rattle.pages.specs.declared.Kind.the-variants.{Pointer, Directory, Page}
@@ -18,7 +18,7 @@ use Rattle.pages.specs.Entry.{presentOf, addressOf}
 use Rattle.pages.specs.Memory.{regions}
 use Rattle.pages.specs.Tables.{levelSize, foundFrom}
 use Rattle.pages.specs.Rules.{mostTables, startOf, afterTable, afterPage, after, afterAll, entryRules, rulesFrom, walkRules, endState}
-use Rattle.pages.specs.Meaning.{Within, Some, position, presentBelow, entry, Present, named, ownMeanings, Walks}
+use Rattle.pages.specs.Meaning.{Within, position, presentBelow, entry, Present, named, ownMeanings, Walks}
 use Rattle.pages.proofs.Found.{below-none, below-present, below-absent, in-level}
 use Rattle.pages.proofs.Conditions.{window, Sound, Fine, fine-exactly, base-exactly}
 use Rattle.pages.proofs.Invariants.{kept}

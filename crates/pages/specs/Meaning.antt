@@ -6,7 +6,7 @@ use mathlib.Core.Bool.{true, cond}
 use mathlib.Core.List.{List, [], _∷_, _++_}
 use Rattle.range.specs.declared.Range.{Range}
 use Rattle.range.specs.Range.{Has, pageSize}
-use Rattle.rules.specs.Rules.{firstFailing}
+use Rattle.rules.specs.Rules.{firstFailing, Every, Some}
 use Rattle.rules.specs.Meaning.{Meaning, meaning, FirstBroken}
 use Rattle.pages.specs.declared.Memory.{Memory}
 use Rattle.pages.specs.declared.Kind.{Kind}
@@ -26,15 +26,6 @@ Within a b = (x : ℕ) → Has a x → Has b x
 
 abbrev pub Apart : Range → Range → Type 0
 Apart a b = (x : ℕ) → Has a x → Has b x → ⊥
-
--- of every range, of some range
-abbrev pub Every : (Range → Type 0) → List Range → Type 0
-Every P [] = Unit
-Every P (r ∷ rs) = P r × Every P rs
-
-abbrev pub Some : (Range → Type 0) → List Range → Type 0
-Some P [] = ⊥
-Some P (r ∷ rs) = P r ⊎ Some P rs
 
 -- BITS
 

@@ -1,10 +1,11 @@
 -- Pages of memory: inside the window, clear of what is forbidden, protected. "Forbidden" and "protected" are one definition each.
 use Prim.Native.Nat.{ℕ}
-use mathlib.Core.Bool.{Bool, true, false, _&&_, _||_}
+use mathlib.Core.Bool.{Bool}
 use mathlib.Core.List.{List, [], _∷_}
 use lib.ListN.{length}
 use Rattle.range.specs.declared.Range.{Range}
 use Rattle.range.specs.Range.{insideOf, clearOf, pageSize}
+use Rattle.rules.specs.Tests.{every, any}
 use Rattle.pages.specs.declared.Memory.{Memory}
 
 -- "Each stands for 4,096 bytes"
@@ -27,19 +28,10 @@ forbidden m = lowForbidden ∷ m .heap ∷ m .sinit ∷ []
 abbrev pub regions : Memory → List Range
 regions m = m .dpr ∷ m .low ∷ m .high ∷ []
 
--- a test holds of every range, of some range
-abbrev pub every : (Range → Bool) → List Range → Bool
-every test [] = true
-every test (r ∷ rs) = test r && every test rs
-
-abbrev pub some : (Range → Bool) → List Range → Bool
-some test [] = false
-some test (r ∷ rs) = test r || some test rs
-
 -- rule 17
 unfoldable pub allowed : Memory → ℕ → Bool
 allowed m a = every (clearOf (pageOf a)) (forbidden m)
 
 -- rule 20: "wholly in"
 unfoldable pub protected : Memory → ℕ → Bool
-protected m a = some (insideOf (pageOf a)) (regions m)
+protected m a = any (insideOf (pageOf a)) (regions m)

@@ -6,7 +6,8 @@ use mathlib.Core.Bool.{Bool, true, false, cond, not, _&&_, _||_, true≢false, n
 use mathlib.Core.List.{List, [], _∷_}
 use borrow.Author.Tests.{not-true, not-false, leb-true, le-leb, ltb-true, lt-ltb, eqb-true, eq-eqb}
 use lib.Dec.{leb, ltb, eqb}
-use Rattle.rules.specs.Rules.{all}
+use Rattle.rules.specs.Tests.{every, any}
+use Rattle.rules.specs.Rules.{all, Every, Some}
 
 -- a test that says a proposition is false where that fails, true where it holds, and equals each test that says the same
 pub fails : {t : Bool} {P : Type 0} → (t ≡ true) ↔ P → (P → ⊥) → false ≡ t
@@ -53,6 +54,16 @@ module _ {a b : Bool} {P Q : Type 0} (p : (a ≡ true) ↔ P) (q : (b ≡ true) 
     λ e. let h = and-eq-true-iff a b .0 e in (p .0 (h .0), q .0 (h .1)),
     λ h. and-eq-true-iff a b .1 (p .1 (h .0), q .1 (h .1)),
   )
+
+-- a test of every value, and of some value, of a list
+module _ {A : Type 0} (test : A → Bool) (P : A → Type 0) (says : (x : A) → (test x ≡ true) ↔ P x) where
+  pub every-exactly : (xs : List A) → (every test xs ≡ true) ↔ Every P xs
+  every-exactly [] = (λ e. tt, λ h. refl)
+  every-exactly (x ∷ xs) = and-exactly (says x) (every-exactly xs)
+
+  pub any-exactly : (xs : List A) → (any test xs ≡ true) ↔ Some P xs
+  any-exactly [] = (λ e. absurd (true≢false (sym e)), λ h. absurd h)
+  any-exactly (x ∷ xs) = or-exactly (says x) (any-exactly xs)
 
 -- a test that is asked only where another holds
 pub where-holds : (a b : Bool) {P Q : Type 0} → (a ≡ true) ↔ P → (b ≡ true) ↔ Q → ((not a || b) ≡ true) ↔ (P → Q)

@@ -1,6 +1,7 @@
 -- Rules in the order they are tried: the first that fails gives the number.
 use Prim.Native.Nat.{ℕ, zero, suc}
 use mathlib.Core.Path.{_≡_}
+use mathlib.Core.Logic.{_⊎_}
 use mathlib.Core.Bool.{Bool, true, false, cond, _&&_}
 use mathlib.Core.List.{List, [], _∷_, _++_}
 
@@ -27,10 +28,14 @@ abbrev pub orElse : ℕ → ℕ → ℕ
 orElse zero later = later
 orElse (suc n) later = suc n
 
--- something is so of every rule
-abbrev pub Every : (Rule → Type 0) → List Rule → Type 0
+-- something is so of every value of a list, of some value
+abbrev pub Every : {A : Type 0} → (A → Type 0) → List A → Type 0
 Every P [] = Unit
-Every P (r ∷ rs) = P r × Every P rs
+Every P (x ∷ xs) = P x × Every P xs
+
+abbrev pub Some : {A : Type 0} → (A → Type 0) → List A → Type 0
+Some P [] = ⊥
+Some P (x ∷ xs) = P x ⊎ Some P xs
 
 abbrev pub AllHold : List Rule → Type 0
 AllHold rs = Every (λ (r : Rule). r .holds ≡ true) rs

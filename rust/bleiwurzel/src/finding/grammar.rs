@@ -45,8 +45,8 @@ pub fn read(file: &[u8], base: Option<u64>) -> Step<Vec<List>> {
     reader.fixed(28, &[0; 4], "the 4 zeros behind the mark")?;
     reader.fixed(32, &[0; 3], "the 3 zeros before the list count")?;
     let count = reader.number(35, 1, "the list count")?;
-    let counted = (1..=policy::MOST_LISTS).contains(&count);
-    need(counted, 27, reader.place("the list count", 35), format!("1 to {}", policy::MOST_LISTS), count.to_string())?;
+    let few = (1..=policy::MOST_LISTS).contains(&count);
+    need(few, 27, reader.place("the list count", 35), format!("1 to {}", policy::MOST_LISTS), count.to_string())?;
     let mut at = policy::FIRST_LIST as u64;
     let mut lists = Vec::new();
     for index in 0..count {

@@ -95,7 +95,7 @@ static void ask(void)
 {
     uint64_t pages[BLEIWURZEL_MOST_PAGES];
     struct bleiwurzel_answer a = bleiwurzel_launch(window, sizeof window, heap, sizeof heap, sinit, sizeof sinit, record, sizeof record,
-                                                   &platform, pages, BLEIWURZEL_MOST_PAGES);
+                                                   NULL, 0 /* no STM image */, &platform, pages, BLEIWURZEL_MOST_PAGES);
     if (a.number != BLEIWURZEL_PERMITTED) {
         printf("refused %" PRIu32 "\n", a.number);
         return;

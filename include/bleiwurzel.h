@@ -26,8 +26,8 @@ extern "C" {
 enum bleiwurzel_number {
     /* The launch is permitted. */
     BLEIWURZEL_PERMITTED = 0,
-    /* The window base is no multiple of 4096, the window is over 32 MiB, the heap is over 1 MiB, or base plus size of window, heap or DPR is
-     * over 2^52. */
+    /* The window base is no multiple of 4096, the window is over 32 MiB, the heap is over 1 MiB, the STM image is over 16 MiB, or base plus
+     * size of window, heap or DPR is over 2^52. */
     BLEIWURZEL_LIMITS = 1,
     /* BiosData, OsMleData and OsSinitData do not fit into the heap, one behind the other. */
     BLEIWURZEL_HEAP_PARTS = 2,
@@ -95,9 +95,11 @@ enum bleiwurzel_number {
 /* The most pages that an image can have: with as many places in the page list, 13 is never answered. */
 #define BLEIWURZEL_MOST_PAGES 4096u
 
-/* Bytes: the most of a memory window, of a TXT heap and of a capture file, the least and the most of a policy file, those of a policy record. */
+/* Bytes: the most of a memory window, of a TXT heap, of an STM image and of a capture file, the least and the most of a policy file, those of a
+ * policy record. */
 #define BLEIWURZEL_MOST_WINDOW (32u << 20)
 #define BLEIWURZEL_MOST_HEAP (1u << 20)
+#define BLEIWURZEL_MOST_STM (16u << 20)
 #define BLEIWURZEL_MOST_CAPTURE 65536u
 #define BLEIWURZEL_LEAST_POLICY 36u
 #define BLEIWURZEL_MOST_POLICY 65536u
@@ -132,22 +134,26 @@ struct bleiwurzel_answer {
 /*
  * Whether the next launch will succeed.
  *
- * Lent for reading: window, heap, sinit (the SINIT module) and record (the policy record of 70 bytes), each with its length in bytes. The
- * policy file of a LIST policy is read from the window, where OsSinitData says it is. The nine numbers after them are the platform's, in the
- * order of struct bleiwurzel_platform.
+ * Lent for reading: window, heap, sinit (the SINIT module), record (the policy record of 70 bytes) and stm (the STM image), each with its
+ * length in bytes. The policy file of a LIST policy is read from the window, where OsSinitData says it is. The nine numbers after them are the
+ * platform's, in the order of struct bleiwurzel_platform.
+ * The STM image is exactly the bytes that SINIT measures: the STM's static image, from the first byte of MSEG on and as long as the STM's header
+ * says. All of what is lent is hashed, and no field of it is read. With no STM its length is 0. It is hashed at most once, and only where a list
+ * that permits otherwise holds an STM element (type 0x14); under ANY it never is.
  * Written: pages, a list of `places` 64-bit numbers: on a permission (0) its first counts[0] places get the physical addresses of the pages in
  * linear order and its other places stay; on a refusal every place stays. counts always: [0] the number of pages, [1] the list. digest always:
  * the digest of the pages. On a refusal counts gets 0 and 255, and digest 32 zeros.
  * Answers 0 to 29; never 30.
  */
 uint32_t bleiwurzel_check(const uint8_t *window, size_t window_length, const uint8_t *heap, size_t heap_length, const uint8_t *sinit,
-                          size_t sinit_length, const uint8_t *record, size_t record_length, uint64_t window_base, uint64_t heap_base,
-                          uint64_t sinit_base, uint64_t dpr_base, uint64_t dpr_size, uint64_t acram_capacity, uint16_t vendor,
-                          uint16_t device, uint16_t revision, uint64_t *pages, size_t places, uint32_t counts[2], uint8_t digest[32]);
+                          size_t sinit_length, const uint8_t *record, size_t record_length, const uint8_t *stm, size_t stm_length,
+                          uint64_t window_base, uint64_t heap_base, uint64_t sinit_base, uint64_t dpr_base, uint64_t dpr_size,
+                          uint64_t acram_capacity, uint16_t vendor, uint16_t device, uint16_t revision, uint64_t *pages, size_t places,
+                          uint32_t counts[2], uint8_t digest[32]);
 
 /*
  * The same for a capture file: the mark `LPC`, 16-bit version 1, the platform, four 32-bit lengths (window, heap, module, record), the four
- * parts; 75 bytes before the parts, at most 65536 in all, nothing after.
+ * parts; 75 bytes before the parts, at most 65536 in all, nothing after. A capture has no STM image.
  *
  * Lent for reading: capture. Written: as by bleiwurzel_check.
  * Answers 0 to 30; 30 where the bytes are no capture.
@@ -165,9 +171,10 @@ uint32_t bleiwurzel_check_capture(const uint8_t *capture, size_t capture_length,
  */
 uint32_t bleiwurzel_check_measured(const uint8_t *window, size_t window_length, const uint8_t *heap, size_t heap_length,
                                    const uint8_t *sinit, size_t sinit_length, const uint8_t *record, size_t record_length,
-                                   uint64_t window_base, uint64_t heap_base, uint64_t sinit_base, uint64_t dpr_base, uint64_t dpr_size,
-                                   uint64_t acram_capacity, uint16_t vendor, uint16_t device, uint16_t revision, uint64_t *pages,
-                                   size_t places, uint32_t counts[2], uint8_t digest[32], uint8_t measurement[32]);
+                                   const uint8_t *stm, size_t stm_length, uint64_t window_base, uint64_t heap_base, uint64_t sinit_base,
+                                   uint64_t dpr_base, uint64_t dpr_size, uint64_t acram_capacity, uint16_t vendor, uint16_t device,
+                                   uint16_t revision, uint64_t *pages, size_t places, uint32_t counts[2], uint8_t digest[32],
+                                   uint8_t measurement[32]);
 
 /* ---- The reader of policy files ----------------------------------------------------------------------------------------------------- */
 
@@ -213,24 +220,25 @@ uint32_t bleiwurzel_policy_list_at(const uint8_t *file, size_t file_length, size
 /* What bleiwurzel_policy_element and bleiwurzel_policy_element_at answer, and what they write where. */
 enum {
     BLEIWURZEL_ELEMENT_NONE = 0,
-    BLEIWURZEL_ELEMENT_LAUNCH = 1,  /* type 0x10 */
-    BLEIWURZEL_ELEMENT_CUSTOM = 2,  /* type 3 */
-    BLEIWURZEL_ELEMENT_UNJUDGED = 3 /* any other type: its list does not permit */
+    BLEIWURZEL_ELEMENT_LAUNCH = 1,   /* type 0x10 */
+    BLEIWURZEL_ELEMENT_CUSTOM = 2,   /* type 3 */
+    BLEIWURZEL_ELEMENT_UNJUDGED = 3, /* any other type: its list does not permit */
+    BLEIWURZEL_ELEMENT_STM = 4       /* type 0x14 */
 };
 enum {
     BLEIWURZEL_ELEMENT_OFFSET = 0,
     BLEIWURZEL_ELEMENT_SIZE = 1, /* the whole element, its own 12 bytes included; the body begins at offset + 12 */
     BLEIWURZEL_ELEMENT_TYPE = 2,
     BLEIWURZEL_ELEMENT_CONTROL = 3,
-    BLEIWURZEL_ELEMENT_SINIT_MIN_VERSION = 4, /* this and the rest: 0 where the type is not 0x10 */
+    BLEIWURZEL_ELEMENT_SINIT_MIN_VERSION = 4, /* this and the next: 0 where the type is not 0x10 */
     BLEIWURZEL_ELEMENT_RESERVED = 5,
-    BLEIWURZEL_ELEMENT_HASH_ALG = 6,
-    BLEIWURZEL_ELEMENT_DIGESTS = 7 /* how many digests; the first one begins at offset + 18 */
+    BLEIWURZEL_ELEMENT_HASH_ALG = 6, /* this and the next: 0 where the type is neither 0x10 nor 0x14 */
+    BLEIWURZEL_ELEMENT_DIGESTS = 7   /* how many digests; the first one begins at offset + 18, of type 0x14 at offset + 16 */
 };
 
 /*
  * The element number j of the list number i, both counted from 0: 0 where there is none, 1 for a launch element (type 0x10), 2 for a custom
- * one (type 3), 3 for another type. Any i and j may be asked.
+ * one (type 3), 3 for another type, 4 for an STM element (type 0x14). Any i and j may be asked.
  *
  * Lent for reading: file. Written: all eight fields, zeros where there is no element.
  */
@@ -256,18 +264,21 @@ void bleiwurzel_sha256(const uint8_t *message, size_t message_length, uint8_t di
 
 /* ---- Shorter to call ---------------------------------------------------------------------------------------------------------------- */
 
-/* bleiwurzel_check with the platform as a struct and the answer as a struct. pages is written as said there. */
+/* bleiwurzel_check with the platform as a struct and the answer as a struct. pages is written as said there. Where there is no STM image,
+ * stm may be NULL, with stm_length 0. */
 static inline struct bleiwurzel_answer bleiwurzel_launch(const uint8_t *window, size_t window_length, const uint8_t *heap,
                                                          size_t heap_length, const uint8_t *sinit, size_t sinit_length,
-                                                         const uint8_t *record, size_t record_length,
-                                                         const struct bleiwurzel_platform *platform, uint64_t *pages, size_t places)
+                                                         const uint8_t *record, size_t record_length, const uint8_t *stm,
+                                                         size_t stm_length, const struct bleiwurzel_platform *platform,
+                                                         uint64_t *pages, size_t places)
 {
     struct bleiwurzel_answer answer;
     uint32_t counts[2];
+    const uint8_t no_image = 0; /* the library follows no pointer of length 0, but none may be NULL */
     answer.number = bleiwurzel_check(window, window_length, heap, heap_length, sinit, sinit_length, record, record_length,
-                                     platform->window_base, platform->heap_base, platform->sinit_base, platform->dpr_base,
-                                     platform->dpr_size, platform->acram_capacity, platform->vendor, platform->device,
-                                     platform->revision, pages, places, counts, answer.digest);
+                                     stm_length == 0 ? &no_image : stm, stm_length, platform->window_base, platform->heap_base,
+                                     platform->sinit_base, platform->dpr_base, platform->dpr_size, platform->acram_capacity,
+                                     platform->vendor, platform->device, platform->revision, pages, places, counts, answer.digest);
     answer.pages = counts[0];
     answer.list = counts[1];
     return answer;

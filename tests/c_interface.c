@@ -24,18 +24,27 @@ static void digests(void)
     NEED(memcmp(digest, abc, 32) == 0);
 }
 
+/* bleiwurzel_launch with an STM image, which may be NULL, and a page list. */
+static struct bleiwurzel_answer launched(const uint8_t *stm, size_t stm_length, uint64_t *list, size_t places)
+{
+    return bleiwurzel_launch(window, sizeof window, heap, sizeof heap, sinit, sizeof sinit, record, sizeof record, stm, stm_length,
+                             &platform, list, places);
+}
+
 static void launches(void)
 {
     uint64_t list[3] = { UNTOUCHED, UNTOUCHED, UNTOUCHED };
-    struct bleiwurzel_answer a =
-        bleiwurzel_launch(window, sizeof window, heap, sizeof heap, sinit, sizeof sinit, record, sizeof record, &platform, list, 1);
+    struct bleiwurzel_answer a = launched(NULL, 0, list, 1);
     NEED(a.number == BLEIWURZEL_PAGE_LIST && a.pages == 0 && a.list == BLEIWURZEL_NO_LIST_INDEX && list[0] == UNTOUCHED);
-    a = bleiwurzel_launch(window, sizeof window, heap, sizeof heap, sinit, sizeof sinit, record, sizeof record, &platform, list, 3);
+    a = launched(NULL, 0, list, 3);
     NEED(a.number == BLEIWURZEL_PERMITTED && a.pages == 2 && a.list == BLEIWURZEL_NO_LIST_INDEX);
     NEED(list[0] == 0x104000 && list[1] == 0x105000 && list[2] == UNTOUCHED);
     uint8_t expected[32];
     bleiwurzel_sha256(window + 4 * PAGE, 2 * PAGE, expected);
     NEED(memcmp(a.digest, expected, 32) == 0);
+    static uint8_t stm[BLEIWURZEL_MOST_STM + 1]; /* the limit holds under ANY too */
+    NEED(launched(stm, BLEIWURZEL_MOST_STM, list, 3).number == BLEIWURZEL_PERMITTED);
+    NEED(launched(stm, BLEIWURZEL_MOST_STM + 1, list, 3).number == BLEIWURZEL_LIMITS);
 }
 
 static void captures(void)
@@ -65,15 +74,31 @@ static void captures(void)
     NEED(a.number == BLEIWURZEL_PERMITTED && a.pages == 2 && list[0] == 0x104000 && list[1] == 0x105000);
 }
 
-/* bleiwurzel_check_measured, for a page list of two places. */
-static uint32_t measured(uint8_t digest[32], uint8_t measurement[32])
+/* bleiwurzel_check_measured with an STM image, for a page list of two places. */
+static uint32_t measured(const uint8_t *stm, size_t stm_length, uint8_t digest[32], uint8_t measurement[32])
 {
     uint64_t list[2];
     uint32_t counts[2];
-    return bleiwurzel_check_measured(window, sizeof window, heap, sizeof heap, sinit, sizeof sinit, record, sizeof record,
+    return bleiwurzel_check_measured(window, sizeof window, heap, sizeof heap, sinit, sizeof sinit, record, sizeof record, stm, stm_length,
                                      platform.window_base, platform.heap_base, platform.sinit_base, platform.dpr_base, platform.dpr_size,
                                      platform.acram_capacity, platform.vendor, platform.device, platform.revision, list, 2, counts, digest,
                                      measurement);
+}
+
+/* Puts a policy file of one unsigned list, whose elements have this size, at the window's front, and makes the record one of type LIST whose
+ * PolicyHash is right for it. */
+static void listed(uint32_t elements_size)
+{
+    put_bytes(window, "Intel(R) TXT LCP_POLICY_DATA", 28);
+    put(window + 35, 1, 1);
+    put(window + 36, 0x00100201, 4);
+    put(window + 40, elements_size, 4);
+    put(heap + 24 + 64, BASE, 8);
+    put(heap + 24 + 72, 44 + elements_size, 8);
+    put(record + 4, 0, 1);
+    uint8_t of_list[32];
+    bleiwurzel_sha256(window + 36, 8 + elements_size, of_list);
+    bleiwurzel_sha256(of_list, 32, record + 38);
 }
 
 static void measurements(void)
@@ -81,22 +106,45 @@ static void measurements(void)
     static const uint8_t zeros[32];
     uint8_t digest[32], measurement[32], expected[32];
     bleiwurzel_sha256(window + 4 * PAGE, 2 * PAGE, expected);
-    NEED(measured(digest, measurement) == BLEIWURZEL_PERMITTED);
+    NEED(measured(zeros, 0, digest, measurement) == BLEIWURZEL_PERMITTED);
     NEED(memcmp(digest, expected, 32) == 0 && memcmp(measurement, expected, 32) == 0);
-    /* a LIST policy, whose file has one list without elements */
-    put_bytes(window, "Intel(R) TXT LCP_POLICY_DATA", 28);
-    put(window + 35, 1, 1);
-    put(window + 36, 0x00100201, 4);
-    put(heap + 24 + 64, BASE, 8);
-    put(heap + 24 + 72, 44, 8);
-    put(record + 4, 0, 1);
-    NEED(measured(digest, measurement) == BLEIWURZEL_POLICY_HASH);
-    NEED(memcmp(digest, zeros, 32) == 0 && memcmp(measurement, zeros, 32) == 0);
-    uint8_t of_list[32];
-    bleiwurzel_sha256(window + 36, 8, of_list);
-    bleiwurzel_sha256(of_list, 32, record + 38);
-    NEED(measured(digest, measurement) == BLEIWURZEL_NO_LIST);
+    listed(0); /* a list without elements */
+    NEED(measured(zeros, 0, digest, measurement) == BLEIWURZEL_NO_LIST);
     NEED(memcmp(digest, zeros, 32) == 0 && memcmp(measurement, expected, 32) == 0);
+    record[38] ^= 1;
+    NEED(measured(zeros, 0, digest, measurement) == BLEIWURZEL_POLICY_HASH);
+    NEED(memcmp(digest, zeros, 32) == 0 && memcmp(measurement, zeros, 32) == 0);
+}
+
+/* A list of a launch element that names the image, and an STM element that names an STM image. */
+static void stm_images(void)
+{
+    static const uint8_t stm[] = "an STM image";
+    uint8_t digest[32], measurement[32];
+    uint8_t *element = window + 44;
+    memset(element, 0, 50 + 48);
+    put(element, 50, 4);
+    put(element + 4, 0x10, 4);
+    put(element + 14, 0x000B, 2);
+    put(element + 16, 1, 2);
+    bleiwurzel_sha256(window + 4 * PAGE, 2 * PAGE, element + 18);
+    element += 50;
+    put(element, 48, 4);
+    put(element + 4, 0x14, 4);
+    put(element + 12, 0x000B, 2);
+    put(element + 14, 1, 2);
+    bleiwurzel_sha256(stm, sizeof stm, element + 16);
+    listed(50 + 48);
+    uint64_t list[2];
+    struct bleiwurzel_answer a = launched(stm, sizeof stm, list, 2);
+    NEED(a.number == BLEIWURZEL_PERMITTED && a.list == 0);
+    NEED(launched(stm, sizeof stm - 1, list, 2).number == BLEIWURZEL_NO_LIST);
+    NEED(launched(NULL, 0, list, 2).number == BLEIWURZEL_NO_LIST);
+    NEED(measured(stm, sizeof stm, digest, measurement) == BLEIWURZEL_PERMITTED);
+    NEED(measured(stm, 0, digest, measurement) == BLEIWURZEL_NO_LIST);
+    bleiwurzel_sha256(stm, 0, element + 16); /* the digest of nothing */
+    listed(50 + 48);
+    NEED(launched(NULL, 0, list, 2).number == BLEIWURZEL_NO_LIST);
 }
 
 static void policies(void)
@@ -149,6 +197,21 @@ static void policies(void)
     put(file + 98, 3, 4);
     NEED(bleiwurzel_policy_element(file, sizeof file, 0, 1, fields) == BLEIWURZEL_ELEMENT_CUSTOM);
     NEED(bleiwurzel_policy_element_at(file, sizeof file, 94, fields) == BLEIWURZEL_ELEMENT_CUSTOM);
+    NEED(fields[BLEIWURZEL_ELEMENT_HASH_ALG] == 0 && fields[BLEIWURZEL_ELEMENT_DIGESTS] == 0);
+    put(file + 48, 0x14, 4); /* element 0: an STM element of 50 bytes, one by SHA-256 and 2 more */
+    put(file + 56, 0x000B, 2);
+    put(file + 58, 1, 2);
+    NEED(bleiwurzel_policy(file, sizeof file, lists) == BLEIWURZEL_POLICY_GRAMMAR);
+    put(file + 40, 61, 4); /* without the 2 */
+    put(file + 44, 48, 4);
+    memmove(file + 92, file + 94, sizeof file - 94);
+    NEED(bleiwurzel_policy(file, sizeof file - 2, lists) == 0 && lists[0] == 2);
+    NEED(bleiwurzel_policy_element(file, sizeof file - 2, 0, 0, fields) == BLEIWURZEL_ELEMENT_STM);
+    NEED(fields[BLEIWURZEL_ELEMENT_OFFSET] == 44 && fields[BLEIWURZEL_ELEMENT_SIZE] == 48 && fields[BLEIWURZEL_ELEMENT_TYPE] == 0x14);
+    NEED(fields[BLEIWURZEL_ELEMENT_CONTROL] == 1 && fields[BLEIWURZEL_ELEMENT_SINIT_MIN_VERSION] == 0);
+    NEED(fields[BLEIWURZEL_ELEMENT_RESERVED] == 0);
+    NEED(fields[BLEIWURZEL_ELEMENT_HASH_ALG] == 0x000B && fields[BLEIWURZEL_ELEMENT_DIGESTS] == 1);
+    NEED(bleiwurzel_policy_element_at(file, sizeof file - 2, 44, fields) == BLEIWURZEL_ELEMENT_STM);
 }
 
 int main(void)
@@ -161,6 +224,7 @@ int main(void)
     launches();
     captures();
     measurements();
+    stm_images();
     policies();
     (void)example_main;
     return wrong;

@@ -35,21 +35,22 @@ number() {
     for i in 0 1 2 3 4 5 6 7; do printf '%b' "\\x$(printf %02x $(($3 >> 8 * i & 255)))"; done | dd of="$1" bs=1 seek="$2" conv=notrunc status=none
 }
 
-# check MODULE: the tool's answer for the image with record.pol and policy.data, which is loaded behind the image.
+# check MODULE WORDS..: the tool's answer for the image with record.pol and policy.data, which is loaded behind the image.
 check() {
-    local base
+    local base module=$1
+    shift
     base=$("$bleiwurzel" capture show "$capture" | sed -n 's/^window_base = //p')
     cat window.bin policy.data >loaded.bin
     number heap.bin 88 $((base + $(stat -c %s window.bin)))
     number heap.bin 96 "$(stat -c %s policy.data)"
-    "$bleiwurzel" check --window loaded.bin --heap heap.bin --sinit "$1" --policy-record record.pol --platform platform.txt || true
+    "$bleiwurzel" check --window loaded.bin --heap heap.bin --sinit "$module" --policy-record record.pol --platform platform.txt "$@" || true
 }
 
-# expect MODULE ANSWER COMMAND: that the answer begins so.
+# expect MODULE ANSWER COMMAND WORDS..: that the answer begins so.
 expect() {
     local answer
-    answer=$(check "$1" | tr -s '\n ' '  ')
-    [[ $answer == "$2"* ]] || fail "'$2' was expected with $1 after: $3"$'\n'"$answer"
+    answer=$(check "$1" "${@:4}" | tr -s '\n ' '  ')
+    [[ $answer == "$2"* ]] || fail "'$2' was expected with $1 ${*:4} after: $3"$'\n'"$answer"
 }
 
 # commands NAME: the command lines on the page that begin with this.
@@ -57,22 +58,32 @@ commands() {
     grep -o '`[^`]*`' "$top/docs/REFUSALS.md" | tr -d '`' | grep "^$1 " | sort -u
 }
 
-# run NAME: runs them.
+# run NAME: runs them. Of each list policies are made and judged.
 run() {
     local line lines
     lines=$(commands "$1") || fail "the page has no command line of $1"
     while IFS= read -r line; do
         echo "+ $line"
+        line=${line/STM-DIGEST/$stm_digest}
         bash -euc "${line/DIGEST/$digest}" || fail "refused by the tool: $line"
-        [[ $1 != lcp2_crtpol ]] || judge "$line"
+        case $1 in
+        lcp2_crtpollist)
+            list=$line
+            run lcp2_crtpol
+            ;;
+        lcp2_crtpol) judge "$line" "$list" ;;
+        esac
     done <<<"$lines"
 }
 
-# judge COMMAND: the record that it made permits the image; a debug module only where control bit 1 was asked for.
+# judge COMMAND LIST: the record that it made permits the image with its STM; a debug module only where control bit 1 was asked for; without the
+# STM only where the list has no element for one, or is not asked.
 judge() {
+    local stm=(--stm stm.bin)
     [ "$(stat -c %s record.pol)" -eq 70 ] || fail "the record has not 70 bytes after: $1"
-    expect sinit.bin permitted "$1"
-    if [[ $1 == *--ctrl\ 0x02* ]]; then expect debug.bin permitted "$1"; else expect debug.bin "refused 24" "$1"; fi
+    expect sinit.bin permitted "$1" "${stm[@]}"
+    if [[ $1 == *--ctrl\ 0x02* ]]; then expect debug.bin permitted "$1" "${stm[@]}"; else expect debug.bin "refused 24" "$1" "${stm[@]}"; fi
+    if [[ $1 == *--type\ list* && $2 == *stm.elt* ]]; then expect sinit.bin "refused 29" "$1"; else expect sinit.bin permitted "$1"; fi
 }
 
 part window window.bin
@@ -82,12 +93,14 @@ part "SINIT module" sinit.bin
 cp sinit.bin debug.bin
 printf '\x80' | dd of=debug.bin bs=1 seek=15 conv=notrunc status=none
 digest=$("$bleiwurzel" check --capture "$capture" | sed -n 's/^  digest  //p')
+head -c 8192 "$capture" >stm.bin
+stm_digest=$(sha256sum stm.bin | cut -c 1-64)
 
 run echo
 run lcp2_crtpolelt
-run lcp2_crtpollist
 : >policy.data
-run lcp2_crtpol
+run lcp2_crtpollist
+commands lcp2_crtpollist | grep stm.elt >/dev/null || fail "the page has no command line for a list with an STM element"
 commands lcp2_crtpol | grep -e '--ctrl 0x02' >/dev/null || fail "the page has no command line for a record that admits a debug module"
 
 # What the page says of other elements: a legacy one does not permit, nor does a list with a custom element of tboot's.
@@ -102,4 +115,10 @@ lcp2_crtpollist --create --listver 0x201 --out policy.lst mle.elt custom.elt
 bash -euc "$again"
 expect sinit.bin "refused 29" "a list with an element of type custom"
 "$bleiwurzel" policy policy.data | grep -q "type: 'custom' (0x13)" || fail "tboot's custom element has another type"
+
+# An STM element of tboot's is read, and asks for its own STM image.
+lcp2_crtpollist --create --listver 0x201 --out policy.lst mle.elt stm.elt
+bash -euc "$again"
+"$bleiwurzel" policy policy.data | grep -q "hashes\[0\]: $stm_digest" || fail "tboot's STM element does not name the STM image"
+expect sinit.bin "refused 29" "a list for another STM image" --stm sinit.bin
 echo "every command line of tboot's tools in docs/REFUSALS.md was run"

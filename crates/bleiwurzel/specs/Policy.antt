@@ -6,7 +6,8 @@ use lib.ListN.{replicate}
 use Rattle.policy_answers.specs.declared.ListAnswer.{ListAnswer}
 use Rattle.policy_answers.specs.declared.ListAnswer.the-variants as lists
 use Rattle.policy_answers.specs.declared.ElementAnswer.{ElementAnswer}
-use Rattle.policy_answers.specs.declared.ElementAnswer.the-variants.{Launch, Custom, Unjudged, Refused}
+use Rattle.policy_answers.specs.declared.ElementAnswer.the-variants.{Launch, Stm, Custom, Unjudged, Refused}
+use Rattle.policy_grammar.specs.Grammar.{launchType, customType, stmType}
 use Rattle.policy_reader.specs.Offsets.{ListAtExactly, ElementAtExactly}
 
 abbrev pub listKind : ListAnswer → ℕ
@@ -24,13 +25,15 @@ elementKind Refused = 0
 elementKind (Launch start size control m v a n) = 1
 elementKind (Custom start size control) = 2
 elementKind (Unjudged start size type control) = 3
+elementKind (Stm start size control a n) = 4
 
--- a launch element has type 0x10 and a custom one type 3
+-- the kind says the type of a launch, a custom or an STM element
 abbrev pub elementFields : ElementAnswer → List ℕ
 elementFields Refused = replicate 8 0
-elementFields (Launch start size control m v a n) = start ∷ size ∷ 0x10 ∷ control ∷ m ∷ v ∷ a ∷ n ∷ []
-elementFields (Custom start size control) = start ∷ size ∷ 3 ∷ control ∷ 0 ∷ 0 ∷ 0 ∷ 0 ∷ []
+elementFields (Launch start size control m v a n) = start ∷ size ∷ launchType ∷ control ∷ m ∷ v ∷ a ∷ n ∷ []
+elementFields (Custom start size control) = start ∷ size ∷ customType ∷ control ∷ 0 ∷ 0 ∷ 0 ∷ 0 ∷ []
 elementFields (Unjudged start size type control) = start ∷ size ∷ type ∷ control ∷ 0 ∷ 0 ∷ 0 ∷ 0 ∷ []
+elementFields (Stm start size control a n) = start ∷ size ∷ stmType ∷ control ∷ 0 ∷ 0 ∷ a ∷ n ∷ []
 
 -- the kind and the numbers are those of the list that stands at an offset of the string, if one does
 pub record ListNumbersAt (s : List ℕ) (at kind : ℕ) (fields : List ℕ) : Type 0 where

@@ -18,6 +18,7 @@ pub extern "C" fn bleiwurzel_check(
     heap: &[u8],
     sinit: &[u8],
     record: &[u8],
+    stm: &[u8],
     window_base: u64,
     heap_base: u64,
     sinit_base: u64,
@@ -32,7 +33,7 @@ pub extern "C" fn bleiwurzel_check(
     digest: &mut [u8; 32],
 ) -> u32
     ensures { λ r. ⌜ GivenFor
-        (inputOf (now (window .entry)) (now (heap .entry)) (now (sinit .entry)) (now («record» .entry))
+        (inputOf (now (window .entry)) (now (heap .entry)) (now (sinit .entry)) (now («record» .entry)) (now (stm .entry))
         (platformOf «window_base» «heap_base» «sinit_base» «dpr_base» «dpr_size» «acram_capacity» vendor device revision)
         (length (now (pages .entry))))
         (now (pages .entry)) r (now (pages .exit)) (now (counts .exit)) (now (digest .exit)) ⌝ }
@@ -43,6 +44,7 @@ pub extern "C" fn bleiwurzel_check(
         heap,
         sinit,
         record,
+        stm,
         window_base,
         heap_base,
         sinit_base,
@@ -66,6 +68,7 @@ pub extern "C" fn bleiwurzel_check_measured(
     heap: &[u8],
     sinit: &[u8],
     record: &[u8],
+    stm: &[u8],
     window_base: u64,
     heap_base: u64,
     sinit_base: u64,
@@ -81,7 +84,7 @@ pub extern "C" fn bleiwurzel_check_measured(
     measurement: &mut [u8; 32],
 ) -> u32
     ensures { λ r. ⌜ MeasuredFor
-        (inputOf (now (window .entry)) (now (heap .entry)) (now (sinit .entry)) (now («record» .entry))
+        (inputOf (now (window .entry)) (now (heap .entry)) (now (sinit .entry)) (now («record» .entry)) (now (stm .entry))
         (platformOf «window_base» «heap_base» «sinit_base» «dpr_base» «dpr_size» «acram_capacity» vendor device revision)
         (length (now (pages .entry))))
         (now (pages .entry)) r (now (pages .exit)) (now (counts .exit)) (now (digest .exit)) (now (measurement .exit)) ⌝ }
@@ -97,7 +100,16 @@ pub extern "C" fn bleiwurzel_check_measured(
         device: device,
         revision: revision,
     };
-    let a = launch::check_measured(window, heap, sinit, record, platform, pages, measurement);
+    let a = launch::check_measured(
+        window,
+        heap,
+        sinit,
+        record,
+        stm,
+        platform,
+        pages,
+        measurement,
+    );
     let two = [a.pages, a.list];
     let sum = a.digest;
     *counts = two;

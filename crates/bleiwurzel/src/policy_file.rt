@@ -1,8 +1,11 @@
 // The reader of policy files: the number of a string, and any list or element of it, by number or at an offset. A part is its offset and its length
 // in the file.
+use policy_answers::CUSTOM_TYPE;
 use policy_answers::ElementAnswer;
 use policy_answers::FileAnswer;
+use policy_answers::LAUNCH_TYPE;
 use policy_answers::ListAnswer;
+use policy_answers::STM_TYPE;
 ghost use mathlib.Core.Path.{_≡_};
 ghost use mathlib.Core.List.{[], _∷_};
 ghost use Rattle.policy_grammar.specs.Decode.{accepted};
@@ -108,8 +111,8 @@ pub extern "C" fn bleiwurzel_policy_list_at(file: &[u8], at: usize, fields: &mut
 }
 
 // The kind of an element, with its numbers in `fields`: 0 where there is none, 1 for a launch element (type 0x10), 2 for a custom one (type 3), 3 for
-// another type. The fields are its offset, its size, its type, its control and, of a launch element, SINITMinVersion, the reserved byte, HashAlg and
-// the number of digests; else zeros.
+// another type, 4 for an STM element (type 0x14). The fields are its offset, its size, its type, its control, of a launch element SINITMinVersion and
+// the reserved byte, and of a launch or an STM element HashAlg and the number of digests; else zeros.
 fn element_numbers(e: ElementAnswer, fields: &mut [u64; 8]) -> u32
     ensures kind { λ r. ⌜ r ≡ elementKind e ⌝ }
     ensures fields { λ _. ⌜ now (fields .exit) ≡ elementFields e ⌝ }
@@ -127,7 +130,7 @@ fn element_numbers(e: ElementAnswer, fields: &mut [u64; 8]) -> u32
             *fields = [
                 start as u64,
                 size as u64,
-                0x10,
+                LAUNCH_TYPE as u64,
                 control as u64,
                 sinit_min_version as u64,
                 reserved as u64,
@@ -141,7 +144,16 @@ fn element_numbers(e: ElementAnswer, fields: &mut [u64; 8]) -> u32
             size,
             control,
         } => {
-            *fields = [start as u64, size as u64, 3, control as u64, 0, 0, 0, 0];
+            *fields = [
+                start as u64,
+                size as u64,
+                CUSTOM_TYPE as u64,
+                control as u64,
+                0,
+                0,
+                0,
+                0,
+            ];
             2
         }
         ElementAnswer::Unjudged {
@@ -161,6 +173,25 @@ fn element_numbers(e: ElementAnswer, fields: &mut [u64; 8]) -> u32
                 0,
             ];
             3
+        }
+        ElementAnswer::Stm {
+            start,
+            size,
+            control,
+            hash_alg,
+            count,
+        } => {
+            *fields = [
+                start as u64,
+                size as u64,
+                STM_TYPE as u64,
+                control as u64,
+                0,
+                0,
+                hash_alg as u64,
+                count as u64,
+            ];
+            4
         }
         ElementAnswer::Refused => {
             *fields = [0u64; 8];

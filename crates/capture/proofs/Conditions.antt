@@ -48,6 +48,7 @@ module _ (s : List ℕ) (o : Offsets) (p : Platform) (n : ℕ) where
       (take (o .sinit - o .heap) (drop (o .heap) s))
       (take (o .«policy_record» - o .sinit) (drop (o .sinit) s))
       (take (o .end - o .«policy_record») (drop (o .«policy_record») s))
+      (take 0 s)
       p
       n
 

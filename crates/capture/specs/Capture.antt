@@ -96,7 +96,7 @@ pub record IsCapture (s : List ℕ) : Type 0 where
 abbrev pub CaptureExactly : Type 0
 CaptureExactly = (s : List ℕ) → (all (captureTests s) ≡ true) ↔ IsCapture s
 
--- what is handed over, for a page list of so many places
+-- what is handed over, for a page list of so many places; "the capture program lends an empty" STM image
 abbrev pub inputIn : List ℕ → ℕ → Input
 inputIn s places =
     record {
@@ -104,6 +104,7 @@ inputIn s places =
       heap = take (heapLength s) (drop (heapAt s) s);
       sinit = take (sinitLength s) (drop (sinitAt s) s);
       policyRecord = take (recordLength s) (drop (recordAt s) s);
+      stm = [];
       platform = platformOf s;
       places = places;
     }

@@ -119,6 +119,7 @@ pub fn check(s: &[u8], pages: &mut [u64]) -> Answer
         &s[heap..sinit],
         &s[sinit..policy_record],
         &s[policy_record..end],
+        &s[..0],
         platform(s),
         pages,
     )

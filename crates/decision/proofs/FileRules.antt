@@ -10,8 +10,7 @@ use Rattle.field.specs.Number.{Bytes}
 use Rattle.rules.proofs.Meaning.{InTurn, agrees, broken-exactly}
 use Rattle.policy_grammar.specs.Grammar.{Reading, Makes}
 use Rattle.policy_grammar.specs.Sizes.{largestFile}
-use Rattle.decision.specs.declared.Criteria.{Criteria}
-use Rattle.decision.specs.Lists.{somePermits}
+use Rattle.decision.specs.Lists.{Criteria, somePermits}
 use Rattle.decision.specs.Answers.{fileRules}
 use Rattle.decision.specs.Meaning.{OfGrammar, SomeReading, SomePermits, Reads, fileMeanings, FileExactly}
 use Rattle.decision.proofs.Conditions.{hash-exactly}

@@ -11,18 +11,12 @@ use Rattle.policy_grammar.specs.Grammar.{PolicyList}
 use Rattle.answer.specs.Answer.{noList}
 use Rattle.rules.specs.Tests.{every, any}
 use Rattle.decision.specs.Lists.{someFrom, lowestFrom}
+use Rattle.decision.specs.Meaning.{Member}
 use Rattle.rules.proofs.Tests.{or-exactly}
 
 module _ {A : Type 0} where
   nothing : (a : A) → none ≡ some a → ⊥
   nothing a e = let z : _≡_ {A = ℕ} 0 1 = cc in omega arith
-
-  -- the value number `place` of a list, of which something holds
-  pub record Member (P : A → Type 0) (xs : List A) : Type 0 where
-    pub place : ℕ
-    pub value : A
-    pub stands : getElem? xs place ≡ some value
-    pub holds : P value
 
   module _ (test : A → Bool) (P : A → Type 0) (says : (a : A) → (test a ≡ true) ↔ P a) where
     pub every-exactly : (xs : List A) → (every test xs ≡ true) ↔ ((j : ℕ) (a : A) → getElem? xs j ≡ some a → P a)

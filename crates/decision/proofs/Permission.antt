@@ -9,23 +9,26 @@ use native.Mathlib.Omega.{arith}
 use lib.ListN.{length, getElem?}
 use Rattle.field.specs.Number.{Bytes}
 use Rattle.field.specs.Field.{same}
-use Rattle.policy_grammar.specs.Grammar.{Body, Launch, Element, Signing, PolicyList, Reading}
+use Rattle.policy_grammar.specs.Grammar.{Digests, Body, launchType, customType, stmType, Element, Signing, PolicyList, Reading}
 use Rattle.policy_grammar.specs.Grammar as Grammar
-use Rattle.decision.specs.declared.Criteria.{Criteria}
-use Rattle.decision.specs.Record.{sha256Alg}
 use Rattle.answer.specs.Answer.{noList}
-use Rattle.decision.specs.Lists.{listsOf, launchType, customType, unsigned, judged, launchNames, names, permits, someFrom, somePermits, lowestFrom, lowestPermitting}
-use Rattle.decision.specs.Meaning.{Names, Permits, PermitsAt, SomePermits, Lowest, Reads, PermitsExactly, LowestExactly, BodyFree}
-use Rattle.rules.proofs.Tests.{eqb-exactly, leb-exactly, or-exactly, and-exactly}
-use Rattle.decision.proofs.Members.{Member, every-exactly, any-exactly, Reported, Unreported, lowest-is}
+use Rattle.sha256.specs.Message.{sha256}
+use Rattle.rules.specs.Tests.{any}
+use Rattle.decision.specs.Lists.{Criteria, listsOf, unsigned, judged, digestsName, names, isStm, namesStm, stmNamed, permits, someFrom, somePermits, lowestFrom, lowestPermitting}
+use Rattle.decision.specs.Meaning.{DigestsName, Names, NamesStm, StmNamed, Permits, PermitsAt, SomePermits, Lowest, Reads, PermitsExactly, LowestExactly, BodyFree}
+use Rattle.rules.proofs.Tests.{eqb-exactly, leb-exactly, ltb-exactly, or-exactly, and-exactly, where-holds}
+use Rattle.decision.proofs.Members.{every-exactly, any-exactly, Reported, Unreported, lowest-is}
 use Rattle.field.proofs.Laws.{same-exactly}
 use Rattle.decision.proofs.Readings.{lists-exactly, few, lists-few}
 
-launch-exactly : (k : Criteria) (b : Launch)
-    → (launchNames k b ≡ true)
-    ↔ ((b .digests .hashAlg ≡ sha256Alg) × (Member (λ (d : List ℕ). k .digest ≡ d) (b .digests .digests) × (b .sinitMinVersion ≤ k .«acm_version»)))
-launch-exactly k b =
-    and-exactly (eqb-exactly _ _) (and-exactly (any-exactly (same (k .digest)) (λ (d : List ℕ). k .digest ≡ d) (same-exactly (k .digest)) (b .digests .digests)) (leb-exactly _ _))
+digests-exactly : (digest : List ℕ) (d : Digests) → (digestsName digest d ≡ true) ↔ DigestsName digest d
+digests-exactly digest d =
+    let x = and-exactly (eqb-exactly _ _) (any-exactly (same digest) (λ (x : List ℕ). digest ≡ x) (same-exactly digest) (d .digests)) in
+    (λ t. (let w = x .0 t in record { algorithm = w .0; named = w .1 }), λ n. x .1 (n .algorithm, n .named))
+
+-- a test that fails says what is never so
+never : {t : Bool} {P : Type 0} → t ≡ false → (P → ⊥) → (t ≡ true) ↔ P
+never e nothing = (λ h. absurd (true≢false (sym h ∙ e)), λ p. absurd (nothing p))
 
 names-exactly : (k : Criteria) (e : Element) → (names k e ≡ true) ↔ Names k e
 unfolding names
@@ -33,28 +36,30 @@ names-exactly k e = go (e .body) refl
   where
     go : (body : Body) → e .body ≡ body → (names k e ≡ true) ↔ Names k e
     go (Grammar.launch b) i =
-        let x = launch-exactly k b in (
-          λ t.
-              let w = x .0 (rw i at t) in
-              record {
-                launch = b;
-                body = i;
-                algorithm = w .0;
-                place = w .1 .0 .place;
-                named = w .1 .0 .stands ∙ ap some (sym (w .1 .0 .holds));
-                version = w .1 .1;
-              },
-          λ n.
-              let q : n .launch ≡ b = (let is = n .body in cc) in
-              rw i (x .1 (
-                rw (← q) (n .algorithm),
-                (record { place = n .place; value = k .digest; stands = rw (← q) (n .named); holds = refl }, rw (← q) (n .version)),
-              )),
+        let x = and-exactly (digests-exactly (k .digest) (b .digests)) (leb-exactly (b .sinitMinVersion) (k .acmVersion)) in (
+          λ t. (let w = x .0 (rw i at t) in record { launch = b; body = i; digests = w .0; version = w .1 }),
+          λ n. (let q : n .launch ≡ b = (let is = n .body in cc) in rw i (x .1 (rw (← q) (n .digests), rw (← q) (n .version)))),
         )
-    go (Grammar.other b) i = (
-      λ t. absurd (true≢false (sym t ∙ rw i)),
-      λ n. (let is = n .body in let z : _≡_ {A = ℕ} 0 1 = cc in absurd (omega arith)),
-    )
+    go (Grammar.stm d) i = never (rw i) (λ n. let is = n .body in let z : _≡_ {A = ℕ} 0 1 = cc in omega arith)
+    go (Grammar.other b) i = never (rw i) (λ n. let is = n .body in let z : _≡_ {A = ℕ} 0 1 = cc in omega arith)
+
+names-stm-exactly : (digest : List ℕ) (e : Element) → (namesStm digest e ≡ true) ↔ NamesStm digest e
+unfolding namesStm
+names-stm-exactly digest e = go (e .body) refl
+  where
+    go : (body : Body) → e .body ≡ body → (namesStm digest e ≡ true) ↔ NamesStm digest e
+    go (Grammar.launch b) i = never (rw i) (λ n. let is = n .body in let z : _≡_ {A = ℕ} 0 1 = cc in omega arith)
+    go (Grammar.stm d) i =
+        let x = digests-exactly digest d in (
+          λ t. record { stm = d; body = i; digests = x .0 (rw i at t) },
+          λ n. (let q : n .stm ≡ d = (let is = n .body in cc) in rw i (x .1 (rw (← q) (n .digests)))),
+        )
+    go (Grammar.other b) i = never (rw i) (λ n. let is = n .body in let z : _≡_ {A = ℕ} 0 1 = cc in omega arith)
+
+stm-exactly : (image : List ℕ) (es : List Element) → (stmNamed image es ≡ true) ↔ StmNamed image es
+stm-exactly image es =
+    let x = and-exactly (ltb-exactly 0 (length image)) (any-exactly (namesStm (sha256 image)) (NamesStm (sha256 image)) (names-stm-exactly (sha256 image)) es) in
+    (λ t. (let w = x .0 t in record { given = w .0; named = w .1 }), λ n. x .1 (n .given, n .named))
 
 unsigned-exactly : (g : Signing) → (unsigned g ≡ true) ↔ (g ≡ Grammar.unsigned)
 unsigned-exactly Grammar.unsigned = (λ e. refl, λ e. refl)
@@ -63,15 +68,15 @@ unsigned-exactly (Grammar.signed g) = (λ e. absurd (true≢false (sym e)), λ e
 list-exactly : (k : Criteria) (i : ℕ) (l : PolicyList) → (permits k i l ≡ true) ↔ Permits k i l
 unfolding permits
 list-exactly k i l =
-    let x =
-    and-exactly (unsigned-exactly (l .signing))
-    (and-exactly (every-exactly judged (λ (e : Element). (e .type ≡ launchType) ⊎ (e .type ≡ customType)) (λ e. or-exactly (eqb-exactly _ _) (eqb-exactly _ _)) (l .elements))
-    (any-exactly (names k) (Names k) (names-exactly k) (l .elements))) in (
-      λ t.
-          let w = x .0 t in
-          let m = w .1 .1 in
-          record { unsigned = w .0; judged = w .1 .0; element = m .place; found = m .value; stands = m .stands; names = m .holds },
-      λ p. x .1 (p .unsigned, (p .judged, record { place = p .element; value = p .found; stands = p .stands; holds = p .names })),
+    let es = l .elements in
+    let all =
+    every-exactly judged (λ (e : Element). (e .type ≡ launchType) ⊎ ((e .type ≡ customType) ⊎ (e .type ≡ stmType)))
+    (λ e. or-exactly (eqb-exactly _ _) (or-exactly (eqb-exactly _ _) (eqb-exactly _ _))) es in
+    let holds-stm = any-exactly isStm (λ (e : Element). e .type ≡ stmType) (λ e. eqb-exactly _ _) es in
+    let stm = where-holds (any isStm es) (stmNamed (k .stm) es) holds-stm (stm-exactly (k .stm) es) in
+    let x = and-exactly (unsigned-exactly (l .signing)) (and-exactly (and-exactly all (any-exactly (names k) (Names k) (names-exactly k) es)) stm) in (
+      λ t. (let w = x .0 t in record { unsigned = w .0; judged = w .1 .0 .0; names = w .1 .0 .1; stm = w .1 .1 }),
+      λ p. x .1 (p .unsigned, ((p .judged, p .names), p .stm)),
     )
 
 -- THE LISTS OF A READING: at most 8, so none has the number 255

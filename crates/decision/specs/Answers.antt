@@ -4,10 +4,11 @@ use mathlib.Core.Bool.{cond}
 use mathlib.Core.List.{List, [], _∷_}
 use lib.Dec.{eqb}
 use Rattle.rules.specs.Rules.{Rule, rule, answerBy}
+use Rattle.decision.specs.declared.MleCriteria.{MleCriteria}
 use Rattle.decision.specs.declared.RecordAnswer.{RecordAnswer}
 use Rattle.decision.specs.declared.RecordAnswer.the-variants as answers
 use Rattle.decision.specs.Record.{policyType, LIST, recordRules}
-use Rattle.decision.specs.Lists.{ofGrammar, hashMatches}
+use Rattle.decision.specs.Lists.{Criteria, ofGrammar, hashMatches}
 
 -- the kind of policy by its type
 abbrev pub kindOf : ℕ → RecordAnswer
@@ -22,6 +23,10 @@ numberOf (answers.Refused n) = n
 -- the kind of policy where the rules of the record hold, else the number of the first that fails
 unfoldable pub recordOf : List ℕ → ℕ → ℕ → RecordAnswer
 recordOf r flags acmVersion = answerBy answers.Refused (kindOf (policyType r)) (recordRules r flags acmVersion)
+
+-- what a list is judged by: what it is judged by of the MLE and the module, and the STM image
+abbrev pub criteriaOf : MleCriteria → List ℕ → Criteria
+criteriaOf k stm = record { digest = k .digest; acmVersion = k .«acm_version»; stm = stm }
 
 -- rules 27 and 28
 abbrev pub fileRules : List ℕ → List ℕ → List Rule

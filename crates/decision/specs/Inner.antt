@@ -1,10 +1,11 @@
 -- What the contracts of functions cite that are not public: an answer of the policy reader, and what it is the answer for.
 use Prim.Native.Nat.{ℕ, _<_, _^_}
 use mathlib.Core.Path.{_≡_}
-use mathlib.Core.Bool.{Bool, true, false}
+use mathlib.Core.Bool.{Bool, true, false, cond, _&&_}
 use mathlib.Core.List.{List, [], _∷_, flatMap}
 use mathlib.Core.Option.{Option, some, none}
 use lib.ListN.{drop}
+use Rattle.sha256.specs.Message.{sha256}
 use Rattle.policy_answers.specs.declared.ListAnswer.{ListAnswer}
 use Rattle.policy_answers.specs.declared.ElementAnswer.{ElementAnswer}
 use Rattle.policy_answers.specs.declared.ElementAnswer.the-variants as elements
@@ -12,8 +13,11 @@ use Rattle.policy_grammar.specs.Grammar.{All, Element, elementBytes, ValidEleme
 use Rattle.policy_grammar.specs.Grammar as Grammar
 use Rattle.policy_answers.specs.Answers.{listShown}
 use Rattle.policy_answers.specs.Seen.{ListPart}
-use Rattle.decision.specs.declared.Criteria.{Criteria}
-use Rattle.decision.specs.Lists.{names}
+use Rattle.decision.specs.declared.StmDigest.{StmDigest}
+use Rattle.decision.specs.declared.Judgement.{Judgement}
+use Rattle.decision.specs.declared.Judgement.the-variants.{No, Yes, IfStmNamed}
+use Rattle.rules.specs.Tests.{every, any}
+use Rattle.decision.specs.Lists.{Criteria, judged, names, isStm}
 
 -- what is measured for a list that is seen
 abbrev pub measuredIn : ListPart → Signing → List ℕ
@@ -27,18 +31,38 @@ measuredSeen (some p) = measuredIn p (p .signing)
 -- an element is of a type that is judged
 abbrev pub judgedAnswer : ElementAnswer → Bool
 judgedAnswer (elements.Launch start size control m v a n) = true
+judgedAnswer (elements.Stm start size control a n) = true
 judgedAnswer (elements.Custom start size control) = true
 judgedAnswer (elements.Unjudged start size type control) = false
 judgedAnswer elements.Refused = false
 
--- an element that is seen names the digest
-abbrev pub namesSeen : Criteria → Option Element → Bool
-namesSeen k none = false
-namesSeen k (some e) = names k e
+abbrev pub isStmAnswer : ElementAnswer → Bool
+isStmAnswer (elements.Launch start size control m v a n) = false
+isStmAnswer (elements.Stm start size control a n) = true
+isStmAnswer (elements.Custom start size control) = false
+isStmAnswer (elements.Unjudged start size type control) = false
+isStmAnswer elements.Refused = false
+
+-- a test of an element that is seen
+abbrev pub testSeen : (Element → Bool) → Option Element → Bool
+testSeen test none = false
+testSeen test (some e) = test e
+
+-- what the elements of a list say: that it does not permit, that it does, or that it does where an STM element names the image
+abbrev pub judgementBy : Bool → Bool → Judgement
+judgementBy found stm = cond found (cond stm IfStmNamed Yes) No
+
+abbrev pub judgementOf : Criteria → List Element → Judgement
+judgementOf k es = judgementBy (every judged es && any (names k) es) (any isStm es)
+
+-- the digest of an STM image, where it is known
+abbrev pub Known : List ℕ → StmDigest → Type 0
+Known image d = d .known ≡ true → d .digest ≡ sha256 image
 
 -- a count of digests is a number of 16 bits
 abbrev pub Counted : ElementAnswer → Type 0
 Counted (elements.Launch start size control m v a n) = n < 2 ^ 16
+Counted (elements.Stm start size control a n) = n < 2 ^ 16
 Counted (elements.Custom start size control) = Unit
 Counted (elements.Unjudged start size type control) = Unit
 Counted elements.Refused = Unit

@@ -1,9 +1,9 @@
 -- The policy file: where it stands, the measures of its lists, and which list permits. Rules 26 to 29, of the one reading that the file has.
 use Prim.Native.Nat.{ℕ, suc, _-_}
-use mathlib.Core.Bool.{Bool, true, false, cond, _&&_, _||_}
+use mathlib.Core.Bool.{Bool, true, false, cond, not, _&&_, _||_}
 use mathlib.Core.List.{List, [], _∷_, flatMap}
 use mathlib.Core.Option.{Option, some, none}
-use lib.Dec.{leb, eqb}
+use lib.Dec.{leb, ltb, eqb}
 use lib.ListN.{length, take, drop}
 use Rattle.field.specs.Field.{same}
 use Rattle.range.specs.Range.{insideOf}
@@ -11,12 +11,11 @@ use Rattle.rules.specs.Tests.{every, any}
 use Rattle.rules.specs.Rules.{all}
 use Rattle.answer.specs.Answer.{noList}
 use Rattle.sha256.specs.Message.{sha256}
-use Rattle.policy_grammar.specs.Grammar.{Body, Launch, Element, Signing, PolicyList, listBytes}
+use Rattle.policy_grammar.specs.Grammar.{Digests, Body, Launch, launchType, customType, stmType, Element, Signing, PolicyList, listBytes}
 use Rattle.policy_grammar.specs.Grammar as Grammar
 use Rattle.policy_answers.specs.Answers.{listsIn}
 use Rattle.policy_grammar.specs.Decode.{accepted}
 use Rattle.policy_grammar.specs.Sizes.{leastFile, largestFile}
-use Rattle.decision.specs.declared.Criteria.{Criteria}
 use Rattle.decision.specs.Record.{policyHash, sha256Alg}
 
 -- 26. "policy file not wholly in the window, or its size not 36 to 65,536"
@@ -58,36 +57,58 @@ hashOf ls = sha256 (flatMap measure ls)
 unfoldable pub hashMatches : List ℕ → List ℕ → Bool
 hashMatches file r = same (hashOf (listsOf file)) (policyHash r)
 
--- 29. "A list permits if it is unsigned, holds only types 0x10 and 3, and some 0x10 element with HashAlg 0x000B names the digest and has
--- SINITMinVersion at most AcmVersion. Signed lists are read and measured but do not permit yet."
-abbrev pub launchType : ℕ
-launchType = 0x10
+-- 29. What a list is judged by: the digest of the pages, AcmVersion of the module, and the STM image, "empty if there is none"
+pub record Criteria : Type 0 where
+  pub digest : List ℕ
+  pub acmVersion : ℕ
+  pub stm : List ℕ
 
-abbrev pub customType : ℕ
-customType = 3
+-- digests with HashAlg 0x000B name a digest
+abbrev pub digestsName : List ℕ → Digests → Bool
+digestsName digest d = eqb (d .hashAlg) sha256Alg && any (same digest) (d .digests)
 
+-- "A list permits if it is unsigned, holds only types 0x10 and 3, and some 0x10 element with HashAlg 0x000B names the digest and has
+-- SINITMinVersion at most AcmVersion. Signed lists are read and measured but do not permit yet." "Add 0x14 .. to the permitted types"
 abbrev pub unsigned : Signing → Bool
 unsigned Grammar.unsigned = true
 unsigned (Grammar.signed g) = false
 
 abbrev pub judged : Element → Bool
-judged e = eqb (e .type) launchType || eqb (e .type) customType
+judged e = eqb (e .type) launchType || (eqb (e .type) customType || eqb (e .type) stmType)
 
 abbrev pub launchNames : Criteria → Launch → Bool
-launchNames k b =
-    eqb (b .digests .hashAlg) sha256Alg
-    && (any (same (k .digest)) (b .digests .digests) && leb (b .sinitMinVersion) (k .«acm_version»))
+launchNames k b = digestsName (k .digest) (b .digests) && leb (b .sinitMinVersion) (k .acmVersion)
 
 abbrev pub bodyNames : Criteria → Body → Bool
 bodyNames k (Grammar.launch b) = launchNames k b
+bodyNames k (Grammar.stm d) = false
 bodyNames k (Grammar.other b) = false
 
 unfoldable pub names : Criteria → Element → Bool
 names k e = bodyNames k (e .body)
 
+-- "A list that holds a 0x14 element permits only if some 0x14 element in it with HashAlg 0x000B names the image's SHA-256 digest; with no image it does
+-- not permit."
+abbrev pub isStm : Element → Bool
+isStm e = eqb (e .type) stmType
+
+abbrev pub bodyNamesStm : List ℕ → Body → Bool
+bodyNamesStm digest (Grammar.launch b) = false
+bodyNamesStm digest (Grammar.stm d) = digestsName digest d
+bodyNamesStm digest (Grammar.other b) = false
+
+unfoldable pub namesStm : List ℕ → Element → Bool
+namesStm digest e = bodyNamesStm digest (e .body)
+
+abbrev pub stmNamed : List ℕ → List Element → Bool
+stmNamed image es = ltb 0 (length image) && any (namesStm (sha256 image)) es
+
+abbrev pub elementsPermit : Criteria → List Element → Bool
+elementsPermit k es = every judged es && any (names k) es && (not (any isStm es) || stmNamed (k .stm) es)
+
 -- of the list number i
 unfoldable pub permits : Criteria → ℕ → PolicyList → Bool
-permits k i l = unsigned (l .signing) && (every judged (l .elements) && any (names k) (l .elements))
+permits k i l = unsigned (l .signing) && elementsPermit k (l .elements)
 
 -- "no list permits": a test holds of some list, counted from i
 unfoldable pub someFrom : ℕ → (ℕ → PolicyList → Bool) → List PolicyList → Bool

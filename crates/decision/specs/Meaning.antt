@@ -11,15 +11,14 @@ use Rattle.field.specs.Number.{Bytes}
 use Rattle.rules.specs.Rules.{all, firstFailing}
 use Rattle.rules.specs.Meaning.{Meaning, meaning, AllSay, FirstBroken}
 use Rattle.sha256.specs.Message.{sha256}
-use Rattle.policy_grammar.specs.Grammar.{Launch, Element, PolicyList, Reading, Makes}
+use Rattle.policy_grammar.specs.Grammar.{Digests, Launch, launchType, customType, stmType, Element, PolicyList, Reading, Makes}
 use Rattle.policy_grammar.specs.Grammar as Grammar
 use Rattle.policy_grammar.specs.Sizes.{leastFile, largestFile}
-use Rattle.decision.specs.declared.Criteria.{Criteria}
 use Rattle.decision.specs.declared.RecordAnswer.the-variants as answers
 use Rattle.decision.specs.Record.{recordSize, versionHigh, knownVersion, hashAlg, sha256Alg, policyType, LIST, ANY, sinitMinVersion, control, policyHash, recordTests, worthyOrAllowed, versionReached, recordRules}
 use Rattle.decision.specs.Answers.{numberOf, recordOf, fileRules}
 use Rattle.answer.specs.Answer.{noList}
-use Rattle.decision.specs.Lists.{filePlaced, ofGrammar, listsOf, measure, hashMatches, launchType, customType, judged, names, somePermits, lowestPermitting}
+use Rattle.decision.specs.Lists.{Criteria, filePlaced, ofGrammar, listsOf, measure, hashMatches, judged, names, somePermits, lowestPermitting}
 
 -- 23
 pub record Record (r : List ℕ) : Type 0 where
@@ -66,23 +65,44 @@ HashMatches reading r = sha256 (flatMap measure (reading .lists)) ≡ policyHash
 abbrev pub fileMeanings : List ℕ → List ℕ → List Meaning
 fileMeanings file r = meaning 27 (OfGrammar file) ∷ meaning 28 (SomeReading file (λ (reading : Reading). HashMatches reading r)) ∷ []
 
--- 29: some one element of type 0x10 with HashAlg 0x000B has the digest among its digests, and a SINITMinVersion that AcmVersion reaches
+-- 29. A value of a list, by its number, of which something is so
+pub record Member {A : Type 0} (P : A → Type 0) (xs : List A) : Type 0 where
+  pub place : ℕ
+  pub value : A
+  pub stands : getElem? xs place ≡ some value
+  pub holds : P value
+
+-- digests with HashAlg 0x000B have a digest among them
+pub record DigestsName (digest : List ℕ) (d : Digests) : Type 0 where
+  pub algorithm : d .hashAlg ≡ sha256Alg
+  pub named : Member (λ (x : List ℕ). digest ≡ x) (d .digests)
+
+-- an element of type 0x10 names the digest and has a SINITMinVersion that AcmVersion reaches
 pub record Names (k : Criteria) (e : Element) : Type 0 where
   pub launch : Launch
   pub body : e .body ≡ Grammar.launch launch
-  pub algorithm : launch .digests .hashAlg ≡ sha256Alg
-  pub place : ℕ
-  pub named : getElem? (launch .digests .digests) place ≡ some (k .digest)
-  pub version : launch .sinitMinVersion ≤ k .«acm_version»
+  pub digests : DigestsName (k .digest) (launch .digests)
+  pub version : launch .sinitMinVersion ≤ k .acmVersion
+
+-- an element of type 0x14 names a digest
+pub record NamesStm (digest : List ℕ) (e : Element) : Type 0 where
+  pub stm : Digests
+  pub body : e .body ≡ Grammar.stm stm
+  pub digests : DigestsName digest stm
+
+-- there is an STM image, and some 0x14 element names its digest
+pub record StmNamed (image : List ℕ) (es : List Element) : Type 0 where
+  pub given : 0 < length image
+  pub named : Member (NamesStm (sha256 image)) es
 
 -- the list number i permits
 pub record Permits (k : Criteria) (i : ℕ) (l : PolicyList) : Type 0 where
   pub unsigned : l .signing ≡ Grammar.unsigned
-  pub judged : (j : ℕ) (e : Element) → getElem? (l .elements) j ≡ some e → (e .type ≡ launchType) ⊎ (e .type ≡ customType)
-  pub element : ℕ
-  pub found : Element
-  pub stands : getElem? (l .elements) element ≡ some found
-  pub names : Names k found
+  pub judged : (j : ℕ) (e : Element) → getElem? (l .elements) j ≡ some e → (e .type ≡ launchType) ⊎ ((e .type ≡ customType) ⊎ (e .type ≡ stmType))
+  -- one and the same element of type 0x10
+  pub names : Member (Names k) (l .elements)
+  -- "A list that holds a 0x14 element permits only if .."
+  pub stm : Member (λ (e : Element). e .type ≡ stmType) (l .elements) → StmNamed (k .stm) (l .elements)
 
 -- the list number i of a reading permits
 pub record PermitsAt (reading : Reading) (k : Criteria) (i : ℕ) : Type 0 where

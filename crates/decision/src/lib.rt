@@ -1,4 +1,5 @@
 // What the policy decides: the policy record (rules 23 to 25), the policy file in the window (26 to 28), and the lowest list that permits (29).
+mod elements;
 mod measures;
 mod permits;
 mod place;
@@ -17,10 +18,29 @@ pub enum RecordAnswer {
     Refused(u32),
 }
 
-// What a list is judged by: the digest of the image, and AcmVersion of the module.
-pub struct Criteria {
+// What a list is judged by of the MLE and the module: the digest of the pages, and AcmVersion. The STM image, which is lent, goes beside it.
+pub struct MleCriteria {
     pub digest: [u8; 32],
     pub acm_version: u64,
+}
+
+// The digest of the STM image, once it is known: it is worked out at most once, and only for a list that could permit.
+pub struct StmDigest {
+    pub known: bool,
+    pub digest: [u8; 32],
+}
+
+// What the elements of a list say: it does not permit, it does, or it does where one of its STM elements names the image.
+pub enum Judgement {
+    No,
+    Yes,
+    IfStmNamed,
+}
+
+// Whether a list permits, and the digest of the STM image where it is known by then.
+pub struct Judged {
+    pub permits: bool,
+    pub stm: StmDigest,
 }
 
 // HashAlg of SHA-256.

@@ -34,43 +34,43 @@ module _ (w : List ℕ) (f : Found) (a : Outcome) (least most : ℕ) (rs later :
       nothing ∙ group-refuses (refusal w f) a rs later n z e
 
 -- 29
-module _ (w file : List ℕ) (f : Found) where
+module _ (w file stm : List ℕ) (f : Found) where
   abbrev last : List Rule
-  last = rule 29 (somePermits file (criteria w f)) ∷ []
+  last = rule 29 (somePermits file (criteria w stm f)) ∷ []
 
   abbrev lowest : ℕ
-  lowest = lowestPermitting file (criteria w f)
+  lowest = lowestPermitting file (criteria w stm f)
 
   -- by the digest and the list that were worked out
   module _ (d : List ℕ) (l : ℕ) (is-digest : d ≡ imageDigest w (f .image))
-      (is-list : l ≡ lowestPermitting file (record { digest = d; «acm_version» = f .«acm_version» })) (b : Bytes file) where
+      (is-list : l ≡ lowestPermitting file (record { digest = d; acmVersion = f .«acm_version»; stm = stm })) (b : Bytes file) where
     listed : l ≡ lowest
     listed = rw is-digest at is-list
 
-    pub no-list : l ≡ noList → refusalShowing d 29 ≡ fileStage w file f
+    pub no-list : l ≡ noList → refusalShowing d 29 ≡ fileStage w file stm f
     unfolding fileStage
     no-list e =
         rw is-digest
         (rule-refuses (refusal w f) (permission w f lowest) 29 _ [] (lit< tt)
-        (sym (fails (reported-exactly file (criteria w f) b) (λ h. h (sym listed ∙ e)))))
+        (sym (fails (reported-exactly file (criteria w stm f) b) (λ h. h (sym listed ∙ e)))))
 
-    pub a-list : (l ≡ noList → ⊥) → permissionWith f l d ≡ fileStage w file f
+    pub a-list : (l ≡ noList → ⊥) → permissionWith f l d ≡ fileStage w file stm f
     unfolding fileStage
     a-list h =
         rw (is-digest, listed)
-        (permits (refusal w f) (permission w f lowest) last (rw (reported-exactly file (criteria w f) b .1 (λ e. h (listed ∙ e)))))
+        (permits (refusal w f) (permission w f lowest) last (rw (reported-exactly file (criteria w stm f) b .1 (λ e. h (listed ∙ e)))))
 
-module _ (w r : List ℕ) (f : Found) where
+module _ (w r stm : List ℕ) (f : Found) where
   -- 26 to 28
   abbrev file : List ℕ
   file = policyFile w f
 
   abbrev permitting : Outcome
-  permitting = permission w f (lowest w file f)
+  permitting = permission w f (lowest w file stm f)
 
-  pub not-placed : all (filePlaced w (f .«window_base») (f .«policy_file» .base) (f .«policy_file» .size)) ≡ false → earlyRefusal 26 ≡ listStage w r f
+  pub not-placed : all (filePlaced w (f .«window_base») (f .«policy_file» .base) (f .«policy_file» .size)) ≡ false → earlyRefusal 26 ≡ listStage w r stm f
   unfolding listStage
-  not-placed e = rule-refuses (refusal w f) permitting 26 _ (fileRules file r ++ last w file f) (lit< tt) e
+  not-placed e = rule-refuses (refusal w f) permitting 26 _ (fileRules file r ++ last w file stm f) (lit< tt) e
 
   -- by the file that was found and the number of its first rule that fails
   module _ (placed : all (filePlaced w (f .«window_base») (f .«policy_file» .base) (f .«policy_file» .size)) ≡ true) (s : List ℕ) (n : ℕ)
@@ -78,49 +78,49 @@ module _ (w r : List ℕ) (f : Found) where
     fault : firstFailing (fileRules file r) ≡ n
     fault = sym (rw is-file at is-fault)
 
-    pub file-refuses : (n ≡ 0 → ⊥) → earlyRefusal n ≡ listStage w r f
+    pub file-refuses : (n ≡ 0 → ⊥) → earlyRefusal n ≡ listStage w r stm f
     unfolding listStage
     file-refuses h =
-        early-refuses w f permitting 27 28 (fileRules file r) (last w file f) (file-group file r .numbers) (lit< tt) n (omega arith) fault
-        ∙ rule-passes (refusal w f) permitting 26 _ (fileRules file r ++ last w file f) placed
+        early-refuses w f permitting 27 28 (fileRules file r) (last w file stm f) (file-group file r .numbers) (lit< tt) n (omega arith) fault
+        ∙ rule-passes (refusal w f) permitting 26 _ (fileRules file r ++ last w file stm f) placed
 
-    pub file-passes : n ≡ 0 → fileStage w s f ≡ listStage w r f
+    pub file-passes : n ≡ 0 → fileStage w s stm f ≡ listStage w r stm f
     unfolding listStage fileStage
     file-passes z =
         rw is-file
-        (group-passes (refusal w f) permitting (fileRules file r) (last w file f) (lit< tt & lit< tt & tt) (fault ∙ z)
-        ∙ rule-passes (refusal w f) permitting 26 _ (fileRules file r ++ last w file f) placed)
+        (group-passes (refusal w f) permitting (fileRules file r) (last w file stm f) (lit< tt & lit< tt & tt) (fault ∙ z)
+        ∙ rule-passes (refusal w f) permitting 26 _ (fileRules file r ++ last w file stm f) placed)
 
   -- 23 to 25
   abbrev rules : List Rule
   rules = recordRules r (f .flags) (f .«acm_version»)
 
   abbrev later : List Rule
-  later = cond (eqb (policyType r) LIST) (listRules w r f) []
+  later = cond (eqb (policyType r) LIST) (listRules w r stm f) []
 
   abbrev outcome : Outcome
-  outcome = permission w f (listFor w r f)
+  outcome = permission w f (listFor w r stm f)
 
-  record-passes : firstFailing rules ≡ 0 → answerBy (refusal w f) outcome later ≡ decideStage w r f
+  record-passes : firstFailing rules ≡ 0 → answerBy (refusal w f) outcome later ≡ decideStage w r stm f
   unfolding decideStage
   record-passes e = group-passes (refusal w f) outcome rules later (numbers-not-0 23 25 rules (lit< tt) (record-group r (f .flags) (f .«acm_version») .numbers)) e
 
-  pub record-refuses : (n : ℕ) → recordOf r (f .flags) (f .«acm_version») ≡ records.Refused n → earlyRefusal n ≡ decideStage w r f
+  pub record-refuses : (n : ℕ) → recordOf r (f .flags) (f .«acm_version») ≡ records.Refused n → earlyRefusal n ≡ decideStage w r stm f
   unfolding decideStage
   record-refuses n e =
       let a = refusal-exactly r _ _ n .0 e in
       early-refuses w f outcome 23 25 rules later (record-group r (f .flags) (f .«acm_version») .numbers) (lit< tt) n (a .0) (a .1)
 
-  pub record-any : recordOf r (f .flags) (f .«acm_version») ≡ records.Any → permission w f noList ≡ decideStage w r f
+  pub record-any : recordOf r (f .flags) (f .«acm_version») ≡ records.Any → permission w f noList ≡ decideStage w r stm f
   record-any e =
       let a = any-exactly r _ _ .0 e in
       let none : permission w f noList ≡ answerBy (refusal w f) outcome later =
       rw (ne-eqb (policyType r) LIST (a .1)) (permits (refusal w f) (permission w f noList) [] refl) in
       none ∙ record-passes (a .0)
 
-  pub record-list : recordOf r (f .flags) (f .«acm_version») ≡ records.List → listStage w r f ≡ decideStage w r f
+  pub record-list : recordOf r (f .flags) (f .«acm_version») ≡ records.List → listStage w r stm f ≡ decideStage w r stm f
   unfolding listStage
   record-list e =
       let a = list-exactly r _ _ .0 e in
-      let under : listStage w r f ≡ answerBy (refusal w f) outcome later = rw (eq-eqb (policyType r) LIST (a .1)) in
+      let under : listStage w r stm f ≡ answerBy (refusal w f) outcome later = rw (eq-eqb (policyType r) LIST (a .1)) in
       under ∙ record-passes (a .0)

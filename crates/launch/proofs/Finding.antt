@@ -115,9 +115,9 @@ module _ (w : List ℕ) (o : OsSinitData) (m : ModuleData) (mem : Memory) (place
 
 -- RULES 1 TO 22
 
-module _ (w h s r : List ℕ) (p : Platform) (places : ℕ) where
+module _ (w h s r stm : List ℕ) (p : Platform) (places : ℕ) where
   abbrev i : Input
-  i = inputOf w h s r p places
+  i = inputOf w h s r stm p places
 
   abbrev whole : FindAnswer
   whole = Complete (found i)
@@ -129,11 +129,11 @@ module _ (w h s r : List ℕ) (p : Platform) (places : ℕ) where
   afterModule = pageRules w (os i) (moduleData i) (memory i) places
 
   -- 1
-  pub platform-refuses : all (platformTests w h p) ≡ false → Refused 1 ≡ findStage i
+  pub platform-refuses : all (platformTests w h stm p) ≡ false → Refused 1 ≡ findStage i
   unfolding findStage
   platform-refuses e = rule-refuses Refused whole 1 _ (heapRules h ++ (module-rules ++ afterModule)) (lit< tt) e
 
-  module _ (platform : all (platformTests w h p) ≡ true) where
+  module _ (platform : all (platformTests w h stm p) ≡ true) where
     platform-passes : answerBy Refused whole (heapRules h ++ (module-rules ++ afterModule)) ≡ findStage i
     unfolding findStage
     platform-passes = rule-passes Refused whole 1 _ (heapRules h ++ (module-rules ++ afterModule)) platform

@@ -24,12 +24,12 @@ module _ (i : Input) (places : List ℕ) (b : Bytes (i .window)) where
   abbrev r : List ℕ
   r = i .policyRecord
 
-  from-lists : firstFailing (rules i) ≡ 29 → firstFailing (cond (eqb (policyType r) LIST) (listRules (i .window) r (found i)) []) ≡ 29
+  from-lists : firstFailing (rules i) ≡ 29 → firstFailing (cond (eqb (policyType r) LIST) (listRules (i .window) r (i .stm) (found i)) []) ≡ 29
   unfolding rules
   from-lists e =
-      let later = cond (eqb (policyType r) LIST) (listRules (i .window) r (found i)) [] in
+      let later = cond (eqb (policyType r) LIST) (listRules (i .window) r (i .stm) (found i)) [] in
       from-later 23 25 29 (recordRules r (found i .flags) (found i .«acm_version»)) later (record-group r (found i .flags) (found i .«acm_version») .numbers) (lit< tt)
-      (from-later 1 22 29 (findRules i) (decideRules (i .window) r (found i)) (find-group i .numbers) (lit< tt) e)
+      (from-later 1 22 29 (findRules i) (decideRules (i .window) r (i .stm) (found i)) (find-group i .numbers) (lit< tt) e)
 
   none : policyType r ≡ LIST → FirstBroken (listMeanings i) 29 → NoList i places
   none l =
@@ -46,7 +46,7 @@ module _ (i : Input) (places : List ℕ) (b : Bytes (i .window)) where
   pub no-list : firstFailing (rules i) ≡ 29 → NoList i places
   no-list e = by (eqb (policyType r) LIST) refl (from-lists e)
     where
-      by : (t : Bool) → eqb (policyType r) LIST ≡ t → firstFailing (cond t (listRules (i .window) r (found i)) []) ≡ 29 → NoList i places
+      by : (t : Bool) → eqb (policyType r) LIST ≡ t → firstFailing (cond t (listRules (i .window) r (i .stm) (found i)) []) ≡ 29 → NoList i places
       by true q f =
-          none (eqb-true _ _ q) (broken-exactly (listRules (i .window) r (found i)) (listMeanings i) (list-turn i b) 29 (lit< tt) .0 f)
+          none (eqb-true _ _ q) (broken-exactly (listRules (i .window) r (i .stm) (found i)) (listMeanings i) (list-turn i b) 29 (lit< tt) .0 f)
       by false q f = absurd (omega arith)

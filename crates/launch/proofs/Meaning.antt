@@ -72,7 +72,7 @@ module _ (i : Input) where
 
   find-agree : Agree (findRules i) (findMeanings i)
   find-agree =
-      agrees (lit< tt) (platform-exactly w (i .heap) (i .platform))
+      agrees (lit< tt) (platform-exactly w (i .heap) (i .stm) (i .platform))
       & agree-append (heapRules (i .heap)) (moduleRules ++ afterModule) (heapMeanings (i .heap)) (moduleSays ++ pagesSay) (heap.agree (i .heap))
       (agree-append moduleRules afterModule moduleSays pagesSay (modules.agree (i .sinit) _ _ (chipsetOf (i .platform)) (os i .version)) pages-agree)
 
@@ -106,9 +106,9 @@ module _ (i : Input) where
 
     -- RULES 23 TO 29
 
-    pub list-turn : InTurn (listRules w r (found i)) (listMeanings i)
+    pub list-turn : InTurn (listRules w r (i .stm) (found i)) (listMeanings i)
     list-turn =
-        let k = criteria w (found i) in
+        let k = criteria w (i .stm) (found i) in
         let last = rule 29 (somePermits (file i) k) ∷ [] in
         let last-says = meaning 29 (SomeReading (file i) (λ (reading : Reading). SomePermits reading k)) ∷ [] in (
           agrees (lit< tt) (placed-exactly _ _ _ _),
@@ -116,15 +116,15 @@ module _ (i : Input) where
               (λ g. (agrees (lit< tt) (files.some-permits (file i) file-bytes file-most k (g .0)), λ s. tt)),
         )
 
-    under-list : (t : Bool) → InTurn (cond t (listRules w r (found i)) []) (cond t (listMeanings i) [])
+    under-list : (t : Bool) → InTurn (cond t (listRules w r (i .stm) (found i)) []) (cond t (listMeanings i) [])
     under-list true = list-turn
     under-list false = tt
 
-    decide-turn : InTurn (decideRules w r (found i)) (decideMeanings i)
+    decide-turn : InTurn (decideRules w r (i .stm) (found i)) (decideMeanings i)
     decide-turn =
         let rs = recordRules r (found i .flags) (found i .«acm_version») in
         let ps = recordMeanings r (found i .flags) (found i .«acm_version») in
-        turn-append rs (cond (eqb (policyType r) LIST) (listRules w r (found i)) []) ps (cond (eqb (policyType r) LIST) (listMeanings i) [])
+        turn-append rs (cond (eqb (policyType r) LIST) (listRules w r (i .stm) (found i)) []) ps (cond (eqb (policyType r) LIST) (listMeanings i) [])
         (in-turn rs ps (records.agree r (found i .flags) (found i .«acm_version»)))
         (λ h. under-list (eqb (policyType r) LIST))
 
@@ -133,7 +133,7 @@ module _ (i : Input) where
     turn : InTurn (rules i) (meanings i)
     unfolding rules
     turn =
-        turn-append (findRules i) (decideRules w r (found i)) (findMeanings i) (decideMeanings i) (in-turn (findRules i) (findMeanings i) find-agree)
+        turn-append (findRules i) (decideRules w r (i .stm) (found i)) (findMeanings i) (decideMeanings i) (in-turn (findRules i) (findMeanings i) find-agree)
         (λ h. decide-turn)
 
     pub all-say : (firstFailing (rules i) ≡ 0) ↔ AllSay (meanings i)

@@ -117,10 +117,10 @@ pub file-group : (file r : List ℕ) → Group 27 28 (fileRules file r)
 unfolding ascend
 file-group file r = group 27 28 (fileRules file r) refl
 
-lists-group : (w r : List ℕ) (f : Found) (t : Bool) → Group 26 29 (cond t (listRules w r f) [])
+lists-group : (w r stm : List ℕ) (f : Found) (t : Bool) → Group 26 29 (cond t (listRules w r stm f) [])
 unfolding ascend
-lists-group w r f true = group 26 29 (listRules w r f) refl
-lists-group w r f false = group 26 29 [] refl
+lists-group w r stm f true = group 26 29 (listRules w r stm f) refl
+lists-group w r stm f false = group 26 29 [] refl
 
 -- ALL RULES
 
@@ -139,7 +139,7 @@ module _ (i : Input) where
   find-group =
       let pages = pageRules (i .window) (os i) (moduleData i) (memory i) (i .places) in
       let modules = sinit.rules (i .sinit) (i .platform .«sinit_base») (i .platform .«acram_capacity») (chipsetOf (i .platform)) (os i .version) in
-      let first = rule 1 (all (platformTests (i .window) (i .heap) (i .platform))) ∷ [] in
+      let first = rule 1 (all (platformTests (i .window) (i .heap) (i .stm) (i .platform))) ∷ [] in
       joined 1 1 2 22 (lit≤ tt) first (heapRules (i .heap) ++ (modules ++ pages)) (lit≤ tt) (lit≤ tt) (group 1 1 first refl)
       (joined 2 5 6 22 (lit≤ tt) (heapRules (i .heap)) (modules ++ pages) (lit≤ tt) (lit≤ tt) (heap-group (i .heap))
       (joined 6 11 12 22 (lit≤ tt) modules pages (lit≤ tt) (lit≤ tt) (module-group (i .sinit) _ _ (chipsetOf (i .platform)) (os i .version)) pages-group))
@@ -148,7 +148,7 @@ module _ (i : Input) where
   unfolding rules
   all-group =
       let r = i .policyRecord in
-      let lists = cond (eqb (policyType r) LIST) (listRules (i .window) r (found i)) [] in
+      let lists = cond (eqb (policyType r) LIST) (listRules (i .window) r (i .stm) (found i)) [] in
       let records = recordRules r (found i .flags) (found i .«acm_version») in
-      joined 1 22 23 29 (lit≤ tt) (findRules i) (decideRules (i .window) r (found i)) (lit≤ tt) (lit≤ tt) find-group
-      (joined 23 25 26 29 (lit≤ tt) records lists (lit≤ tt) (lit≤ tt) (record-group r _ _) (lists-group (i .window) r (found i) (eqb (policyType r) LIST)))
+      joined 1 22 23 29 (lit≤ tt) (findRules i) (decideRules (i .window) r (i .stm) (found i)) (lit≤ tt) (lit≤ tt) find-group
+      (joined 23 25 26 29 (lit≤ tt) records lists (lit≤ tt) (lit≤ tt) (record-group r _ _) (lists-group (i .window) r (i .stm) (found i) (eqb (policyType r) LIST)))

@@ -47,7 +47,7 @@ module _ (i : Input) where
   -- WHAT THE RULES SAY, group by group
 
   pub record Said : Type 0 where
-    pub platform : PlatformHolds w (i .heap) p
+    pub platform : PlatformHolds w (i .heap) (i .stm) p
     pub heap : HeapHolds (i .heap)
     pub sinit : ModuleHolds (i .sinit) (p .«sinit_base») (p .«acram_capacity») (chipsetOf p) (os i .version)
     pub size : mle.Size (os i .«mle_size»)
@@ -130,7 +130,7 @@ module _ (i : Input) where
 
   -- THE LISTS OF ONE READING
 
-  list-permits : AllSay (listMeanings i) ↔ ListPermits w r (found i)
+  list-permits : AllSay (listMeanings i) ↔ ListPermits w r (i .stm) (found i)
   list-permits = (
     λ h.
         let (reading, (makes, hash)) = h .1 .1 .0 in
@@ -140,7 +140,7 @@ module _ (i : Input) where
           reading = reading;
           grammar = makes;
           hash = hash;
-          permits = subst (λ (x : Reading). decision.SomePermits x (criteria w (found i))) (unique other reading (file i) made makes) permits;
+          permits = subst (λ (x : Reading). decision.SomePermits x (criteria w (i .stm) (found i))) (unique other reading (file i) made makes) permits;
         },
     λ l.
         l .placed & (l .reading, l .grammar) & (l .reading, (l .grammar, l .hash)) & (l .reading, (l .grammar, l .permits)) & tt,
@@ -149,7 +149,7 @@ module _ (i : Input) where
   -- ALL RULES
 
   abbrev Lists : Image → Type 0
-  Lists im = policyType r ≡ LIST → ListPermits w r (foundOf im (os i) (moduleData i))
+  Lists im = policyType r ≡ LIST → ListPermits w r (i .stm) (foundOf im (os i) (moduleData i))
 
   holds : Said → Permitted i
   holds s =

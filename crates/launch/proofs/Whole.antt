@@ -23,10 +23,10 @@ module _ (i : Input) where
   refusing = refusal (i .window) (found i)
 
   abbrev outcome : Outcome
-  outcome = permission (i .window) (found i) (listFor (i .window) (i .policyRecord) (found i))
+  outcome = permission (i .window) (found i) (listFor (i .window) (i .policyRecord) (i .stm) (found i))
 
   abbrev later : List Rule
-  later = decideRules (i .window) (i .policyRecord) (found i)
+  later = decideRules (i .window) (i .policyRecord) (i .stm) (found i)
 
   pub find-refuses : (n : ℕ) → findStage i ≡ Refused n → earlyRefusal n ≡ outcomeOf i
   unfolding findStage outcomeOf rules
@@ -34,7 +34,7 @@ module _ (i : Input) where
       let a = refused-by (findRules i) (found i) n e in
       early-refuses (i .window) (found i) outcome 1 22 (findRules i) later (find-group i .numbers) (lit< tt) n (a .0) (a .1)
 
-  pub find-passes : (f : Found) → findStage i ≡ Complete f → decideStage (i .window) (i .policyRecord) f ≡ outcomeOf i
+  pub find-passes : (f : Found) → findStage i ≡ Complete f → decideStage (i .window) (i .policyRecord) (i .stm) f ≡ outcomeOf i
   unfolding findStage decideStage outcomeOf rules
   find-passes f e =
       let a = complete-by (findRules i) (found i) f e in

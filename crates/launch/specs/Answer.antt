@@ -14,16 +14,16 @@ use Rattle.launch.specs.declared.Found.{Found}
 use Rattle.launch.specs.Rules.{Input, policyFile, criteria, image, found, rules}
 
 -- "Under ANY the list is 255." Under LIST it is the lowest that permits
-abbrev pub listFor : List ℕ → List ℕ → Found → ℕ
-listFor window policyRecord f =
-    cond (eqb (policyType policyRecord) LIST) (lowestPermitting (policyFile window f) (criteria window f)) noList
+abbrev pub listFor : List ℕ → List ℕ → List ℕ → Found → ℕ
+listFor window policyRecord stm f =
+    cond (eqb (policyType policyRecord) LIST) (lowestPermitting (policyFile window f) (criteria window stm f)) noList
 
 abbrev pub permitted : Input → Answer
 permitted i =
     record {
       number = 0;
       pages = image i .count;
-      list = listFor (i .window) (i .policyRecord) (found i);
+      list = listFor (i .window) (i .policyRecord) (i .stm) (found i);
       digest = imageDigest (i .window) (image i);
     }
 

@@ -12,6 +12,7 @@ pub record SameButBodies (i j : Input) : Type 0 where
   pub heap : SameElsewhere (i .heap) (j .heap)
   pub sinit : i .sinit ≡ j .sinit
   pub policyRecord : i .policyRecord ≡ j .policyRecord
+  pub stm : i .stm ≡ j .stm
   pub platform : i .platform ≡ j .platform
   pub places : i .places ≡ j .places
 

@@ -34,7 +34,7 @@ module _ (i : Input) (places : List ℕ) where
   pub record LowestPermits : Type 0 where
     pub reading : Reading
     pub grammar : Makes reading (policyFile (i .window) (found i))
-    pub lowest : Lowest reading (record { digest = answerOf i .digest; «acm_version» = moduleData i .«acm_version» }) (answerOf i .list)
+    pub lowest : Lowest reading (record { digest = answerOf i .digest; acmVersion = moduleData i .«acm_version»; stm = i .stm }) (answerOf i .list)
 
   pub record Permission : Type 0 where
     pub count : answerOf i .pages ≡ N i
@@ -60,7 +60,7 @@ module _ (i : Input) (places : List ℕ) where
     pub underList : policyType (i .policyRecord) ≡ LIST
     pub reading : Reading
     pub grammar : Makes reading (policyFile (i .window) (found i))
-    pub none : SomePermits reading (criteria (i .window) (found i)) → ⊥
+    pub none : SomePermits reading (criteria (i .window) (i .stm) (found i)) → ⊥
 
   pub record PermittedExactly : Type 0 where
     pub exactly : (answerOf i .number ≡ 0) ↔ Permitted i

@@ -32,7 +32,7 @@ module _ (i : Input) where
   -- 1 to 22, of what the launch finds
   abbrev pub findMeanings : List Meaning
   findMeanings =
-      meaning 1 (PlatformHolds (i .window) (i .heap) (i .platform))
+      meaning 1 (PlatformHolds (i .window) (i .heap) (i .stm) (i .platform))
       -- 2 to 5
       ∷ (heapMeanings (i .heap)
       -- 6 to 11
@@ -51,7 +51,7 @@ module _ (i : Input) where
       meaning 26 (Placed (i .window) (i .platform .«window_base») (os i .«policy_file_base») (os i .«policy_file_size»))
       -- 27 and 28
       ∷ (fileMeanings file (i .policyRecord)
-      ++ (meaning 29 (SomeReading file (λ (reading : Reading). SomePermits reading (criteria (i .window) (found i)))) ∷ []))
+      ++ (meaning 29 (SomeReading file (λ (reading : Reading). SomePermits reading (criteria (i .window) (i .stm) (found i)))) ∷ []))
 
   -- 23 to 29, of what the policy decides
   abbrev pub decideMeanings : List Meaning

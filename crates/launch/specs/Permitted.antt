@@ -17,25 +17,26 @@ use Rattle.decision.specs.Record.{policyType, LIST}
 use Rattle.decision.specs.Meaning as decision
 use Rattle.launch.specs.declared.Platform.{Platform}
 use Rattle.launch.specs.declared.Found.{Found}
-use Rattle.launch.specs.Rules.{Input, mostWindow, mostHeap, dprRange, chipsetOf, foundOf, os, moduleData, memory, policyFile, criteria}
+use Rattle.launch.specs.Rules.{Input, mostWindow, mostHeap, mostStm, dprRange, chipsetOf, foundOf, os, moduleData, memory, policyFile, criteria}
 
 -- 1
-pub record PlatformHolds (window heap : List ℕ) (p : Platform) : Type 0 where
+pub record PlatformHolds (window heap stm : List ℕ) (p : Platform) : Type 0 where
   pub onPage : p .«window_base» % pageSize ≡ 0
   pub windowMost : length window ≤ mostWindow
   pub heapMost : length heap ≤ mostHeap
+  pub stmMost : length stm ≤ mostStm
   pub windowEnd : endOf (windowOf window (p .«window_base»)) ≤ highestEnd
   pub heapEnd : p .«heap_base» + length heap ≤ highestEnd
   pub dprEnd : endOf (dprRange p) ≤ highestEnd
 
 -- 26 to 29, by what the launch finds
-pub record ListPermits (window policyRecord : List ℕ) (f : Found) : Type 0 where
+pub record ListPermits (window policyRecord stm : List ℕ) (f : Found) : Type 0 where
   pub placed : decision.Placed window (f .«window_base») (f .«policy_file» .base) (f .«policy_file» .size)
   -- the grammar makes the file from this reading, of whose lists the next two rules speak
   pub reading : Reading
   pub grammar : Makes reading (policyFile window f)
   pub hash : decision.HashMatches reading policyRecord
-  pub permits : decision.SomePermits reading (criteria window f)
+  pub permits : decision.SomePermits reading (criteria window stm f)
 
 module _ (i : Input) where
   -- "N is MLE Size divided by 4096"
@@ -49,7 +50,7 @@ module _ (i : Input) where
 
   pub record Permitted : Type 0 where
     -- 1
-    pub platform : PlatformHolds (i .window) (i .heap) (i .platform)
+    pub platform : PlatformHolds (i .window) (i .heap) (i .stm) (i .platform)
     -- 2
     pub parts : heap.PartsFit (i .heap)
     -- 3
@@ -89,4 +90,4 @@ module _ (i : Input) where
     -- 25
     pub reached : decision.Reached (moduleData i .«acm_version») (i .policyRecord)
     -- 26 to 29
-    pub lists : policyType (i .policyRecord) ≡ LIST → ListPermits (i .window) (i .policyRecord) (foundOf (pagesFrom first) (os i) (moduleData i))
+    pub lists : policyType (i .policyRecord) ≡ LIST → ListPermits (i .window) (i .policyRecord) (i .stm) (foundOf (pagesFrom first) (os i) (moduleData i))

@@ -19,9 +19,8 @@ use Rattle.pages.specs.Rules.{walkRules, endState}
 use Rattle.mle.specs.declared.Image.{Image}
 use Rattle.mle.specs.Image.{imageDigest}
 use Rattle.mle.specs.Header.{pagesOf, sizeTests, headerTests}
-use Rattle.decision.specs.declared.Criteria.{Criteria}
 use Rattle.decision.specs.Record.{policyType, LIST, recordRules}
-use Rattle.decision.specs.Lists.{filePlaced, fileOf, somePermits}
+use Rattle.decision.specs.Lists.{Criteria, filePlaced, fileOf, somePermits}
 use Rattle.decision.specs.Answers.{fileRules}
 use Rattle.launch.specs.declared.Platform.{Platform}
 use Rattle.launch.specs.declared.Found.{Found}
@@ -32,11 +31,13 @@ pub record Input : Type 0 where
   pub heap : List ℕ
   pub sinit : List ℕ
   pub policyRecord : List ℕ
+  pub stm : List ℕ
   pub platform : Platform
   pub places : ℕ
 
-abbrev pub inputOf : List ℕ → List ℕ → List ℕ → List ℕ → Platform → ℕ → Input
-inputOf w h s r platform n = record { window = w; heap = h; sinit = s; policyRecord = r; platform = platform; places = n }
+abbrev pub inputOf : List ℕ → List ℕ → List ℕ → List ℕ → List ℕ → Platform → ℕ → Input
+inputOf w h s r stm platform n =
+    record { window = w; heap = h; sinit = s; policyRecord = r; stm = stm; platform = platform; places = n }
 
 -- WHAT THE LAUNCH FINDS
 
@@ -64,12 +65,17 @@ mostWindow = 32 * 2 ^ 20
 abbrev pub mostHeap : ℕ
 mostHeap = 2 ^ 20
 
--- 1. "window base no multiple of 4096; window over 32 MiB; heap over 1 MiB; base plus size of window, heap or DPR over 2^52"
-unfoldable pub platformTests : List ℕ → List ℕ → Platform → List Bool
-platformTests window heap p =
+abbrev pub mostStm : ℕ
+mostStm = 16 * 2 ^ 20
+
+-- 1. "window base no multiple of 4096; window over 32 MiB; heap over 1 MiB; base plus size of window, heap or DPR over 2^52"; of the STM image "Over
+-- 16 MiB is 1"
+unfoldable pub platformTests : List ℕ → List ℕ → List ℕ → Platform → List Bool
+platformTests window heap stm p =
     eqb (p .«window_base» % pageSize) 0
     ∷ leb (length window) mostWindow
     ∷ leb (length heap) mostHeap
+    ∷ leb (length stm) mostStm
     ∷ endsBy (windowOf window (p .«window_base»)) highestEnd
     ∷ endsBy (record { base = p .«heap_base»; size = length heap }) highestEnd
     ∷ endsBy (dprRange p) highestEnd
@@ -134,7 +140,7 @@ module _ (i : Input) where
   abbrev pub findRules : List Rule
   findRules =
       -- 1
-      rule 1 (all (platformTests (i .window) (i .heap) (i .platform)))
+      rule 1 (all (platformTests (i .window) (i .heap) (i .stm) (i .platform)))
       -- 2 to 5
       ∷ (heapRules (i .heap)
       -- 6 to 11
@@ -148,23 +154,23 @@ module _ (i : Input) where
 abbrev pub policyFile : List ℕ → Found → List ℕ
 policyFile window f = fileOf window (f .«window_base») (f .«policy_file» .base) (f .«policy_file» .size)
 
-abbrev pub criteria : List ℕ → Found → Criteria
-criteria window f = record { digest = imageDigest window (f .image); «acm_version» = f .«acm_version» }
+abbrev pub criteria : List ℕ → List ℕ → Found → Criteria
+criteria window stm f = record { digest = imageDigest window (f .image); acmVersion = f .«acm_version»; stm = stm }
 
 -- 26 to 29
-abbrev pub listRules : List ℕ → List ℕ → Found → List Rule
-listRules window policyRecord f =
+abbrev pub listRules : List ℕ → List ℕ → List ℕ → Found → List Rule
+listRules window policyRecord stm f =
     rule 26 (all (filePlaced window (f .«window_base») (f .«policy_file» .base) (f .«policy_file» .size)))
     -- 27 and 28
-    ∷ (fileRules (policyFile window f) policyRecord ++ (rule 29 (somePermits (policyFile window f) (criteria window f)) ∷ []))
+    ∷ (fileRules (policyFile window f) policyRecord ++ (rule 29 (somePermits (policyFile window f) (criteria window stm f)) ∷ []))
 
-abbrev pub decideRules : List ℕ → List ℕ → Found → List Rule
-decideRules window policyRecord f =
+abbrev pub decideRules : List ℕ → List ℕ → List ℕ → Found → List Rule
+decideRules window policyRecord stm f =
     -- 23 to 25
     recordRules policyRecord (f .flags) (f .«acm_version»)
     -- "Rules 26 to 29 are tried under LIST only."
-    ++ cond (eqb (policyType policyRecord) LIST) (listRules window policyRecord f) []
+    ++ cond (eqb (policyType policyRecord) LIST) (listRules window policyRecord stm f) []
 
 -- ALL RULES. "Lower numbers come first, except 14 to 20, which follow the walk."
 unfoldable pub rules : Input → List Rule
-rules i = findRules i ++ decideRules (i .window) (i .policyRecord) (found i)
+rules i = findRules i ++ decideRules (i .window) (i .policyRecord) (i .stm) (found i)

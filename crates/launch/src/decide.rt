@@ -5,7 +5,7 @@ use crate::Outcome;
 use answer::Answer;
 use answer::NO_LIST;
 use answer::refused;
-use decision::Criteria;
+use decision::MleCriteria;
 use decision::RecordAnswer;
 use mle::Image;
 ghost use mathlib.Core.Path.{_≡_};
@@ -54,16 +54,16 @@ fn permission(f: Found, list: u32, digest: [u8; 32]) -> Outcome
 }
 
 // Rule 29, by the policy file.
-fn by_file(window: &[u8], file: &[u8], f: Found) -> Outcome
-    ensures { λ r. ⌜ r ≡ spec.fileStage (now (window .entry)) (now (file .entry)) f ⌝ }
+fn by_file(window: &[u8], file: &[u8], stm: &[u8], f: Found) -> Outcome
+    ensures { λ r. ⌜ r ≡ spec.fileStage (now (window .entry)) (now (file .entry)) (now (stm .entry)) f ⌝ }
 {
     let image = f.image;
     let digest = mle::digest(window, image);
-    let criteria = Criteria {
+    let criteria = MleCriteria {
         digest: digest,
         acm_version: f.acm_version,
     };
-    let list = decision::lowest_permitting(file, criteria);
+    let list = decision::lowest_permitting(file, stm, criteria);
     if list == NO_LIST {
         return refusal_showing(29, digest);
     }
@@ -71,8 +71,8 @@ fn by_file(window: &[u8], file: &[u8], f: Found) -> Outcome
 }
 
 // Rules 26 to 29.
-fn by_lists(window: &[u8], record: &[u8], f: Found) -> Outcome
-    ensures { λ r. ⌜ r ≡ spec.listStage (now (window .entry)) (now («record» .entry)) f ⌝ }
+fn by_lists(window: &[u8], record: &[u8], stm: &[u8], f: Found) -> Outcome
+    ensures { λ r. ⌜ r ≡ spec.listStage (now (window .entry)) (now («record» .entry)) (now (stm .entry)) f ⌝ }
 {
     let place = f.policy_file;
     if !decision::file_placed(window, f.window_base, place.base, place.size) {
@@ -83,7 +83,7 @@ fn by_lists(window: &[u8], record: &[u8], f: Found) -> Outcome
     if fault != 0 {
         return refusal(fault);
     }
-    by_file(window, file, f)
+    by_file(window, file, stm, f)
 }
 
 // Under ANY every image is permitted.
@@ -95,12 +95,12 @@ fn by_any(window: &[u8], f: Found) -> Outcome
 }
 
 // Rules 23 to 25, and 26 to 29 under LIST.
-pub(crate) fn decide(window: &[u8], record: &[u8], f: Found) -> Outcome
-    ensures { λ r. ⌜ r ≡ spec.decideStage (now (window .entry)) (now («record» .entry)) f ⌝ }
+pub(crate) fn decide(window: &[u8], record: &[u8], stm: &[u8], f: Found) -> Outcome
+    ensures { λ r. ⌜ r ≡ spec.decideStage (now (window .entry)) (now («record» .entry)) (now (stm .entry)) f ⌝ }
 {
     match decision::kind(record, f.flags, f.acm_version) {
         RecordAnswer::Refused(n) => refusal(n),
         RecordAnswer::Any => by_any(window, f),
-        RecordAnswer::List => by_lists(window, record, f),
+        RecordAnswer::List => by_lists(window, record, stm, f),
     }
 }

@@ -21,10 +21,12 @@ ghost use Prim.Native.Nat.{ℕ};
 ghost use Rattle.launch.specs.Rules.{inputOf, platformTests, memoryFrom, chipsetOf, foundOf};
 ghost use Rattle.launch.specs.Inner.{imageStage, pageStage, findStage};
 
-// The most bytes of a window and of a heap.
+// The most bytes of a window, of a heap and of an STM image.
 const MOST_WINDOW: usize = 0x200_0000;
 
 const MOST_HEAP: usize = 0x10_0000;
+
+const MOST_STM: usize = 0x100_0000;
 
 fn ends(base: u64, size: u64) -> bool
     ensures { λ r. ⌜ r ≡ endsBy (record { base = base; size = size }) highestEnd ⌝ }
@@ -33,8 +35,8 @@ fn ends(base: u64, size: u64) -> bool
 }
 
 // Rule 1.
-fn platform_holds(window: &[u8], heap: &[u8], p: Platform) -> bool
-    ensures { λ r. ⌜ r ≡ all (platformTests (now (window .entry)) (now (heap .entry)) p) ⌝ }
+fn platform_holds(window: &[u8], heap: &[u8], stm: &[u8], p: Platform) -> bool
+    ensures { λ r. ⌜ r ≡ all (platformTests (now (window .entry)) (now (heap .entry)) (now (stm .entry)) p) ⌝ }
 {
     if p.window_base % PAGE_SIZE != 0 {
         return false;
@@ -43,6 +45,9 @@ fn platform_holds(window: &[u8], heap: &[u8], p: Platform) -> bool
         return false;
     }
     if MOST_HEAP < heap.len() {
+        return false;
+    }
+    if MOST_STM < stm.len() {
         return false;
     }
     if !ends(p.window_base, window.len() as u64) {
@@ -163,12 +168,13 @@ pub(crate) fn find(
     window: &[u8],
     heap: &[u8],
     sinit: &[u8],
+    stm: &[u8],
     p: Platform,
     places: usize,
 ) -> FindAnswer
-    ensures { λ r. ⌜ ((policyRecord : List ℕ) → r ≡ findStage (inputOf (now (window .entry)) (now (heap .entry)) (now (sinit .entry)) policyRecord p places)) ⌝ }
+    ensures { λ r. ⌜ ((policyRecord : List ℕ) → r ≡ findStage (inputOf (now (window .entry)) (now (heap .entry)) (now (sinit .entry)) policyRecord (now (stm .entry)) p places)) ⌝ }
 {
-    if !platform_holds(window, heap, p) {
+    if !platform_holds(window, heap, stm, p) {
         return FindAnswer::Refused(1);
     }
     match heap::read(heap) {

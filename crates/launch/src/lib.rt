@@ -59,14 +59,15 @@ fn judge(
     heap: &[u8],
     sinit: &[u8],
     record: &[u8],
+    stm: &[u8],
     platform: Platform,
     places: usize,
 ) -> Outcome
-    ensures { λ r. ⌜ r ≡ outcomeOf (inputOf (now (window .entry)) (now (heap .entry)) (now (sinit .entry)) (now («record» .entry)) platform places) ⌝ }
+    ensures { λ r. ⌜ r ≡ outcomeOf (inputOf (now (window .entry)) (now (heap .entry)) (now (sinit .entry)) (now («record» .entry)) (now (stm .entry)) platform places) ⌝ }
 {
-    match find(window, heap, sinit, platform, places) {
+    match find(window, heap, sinit, stm, platform, places) {
         FindAnswer::Refused(n) => refusal(n),
-        FindAnswer::Complete(f) => decide(window, record, f),
+        FindAnswer::Complete(f) => decide(window, record, stm, f),
     }
 }
 
@@ -77,15 +78,16 @@ pub fn check_measured(
     heap: &[u8],
     sinit: &[u8],
     record: &[u8],
+    stm: &[u8],
     platform: Platform,
     pages: &mut [u64],
     measurement: &mut [u8; 32],
 ) -> Answer
-    ensures answer { λ r. ⌜ r ≡ answerOf (inputOf (now (window .entry)) (now (heap .entry)) (now (sinit .entry)) (now («record» .entry)) platform (length (now (pages .entry)))) ⌝ }
-    ensures places { λ _. ⌜ now (pages .exit) ≡ placesOf (inputOf (now (window .entry)) (now (heap .entry)) (now (sinit .entry)) (now («record» .entry)) platform (length (now (pages .entry)))) (now (pages .entry)) ⌝ }
-    ensures measurement { λ _. ⌜ now (measurement .exit) ≡ measurementOf (inputOf (now (window .entry)) (now (heap .entry)) (now (sinit .entry)) (now («record» .entry)) platform (length (now (pages .entry)))) ⌝ }
+    ensures answer { λ r. ⌜ r ≡ answerOf (inputOf (now (window .entry)) (now (heap .entry)) (now (sinit .entry)) (now («record» .entry)) (now (stm .entry)) platform (length (now (pages .entry)))) ⌝ }
+    ensures places { λ _. ⌜ now (pages .exit) ≡ placesOf (inputOf (now (window .entry)) (now (heap .entry)) (now (sinit .entry)) (now («record» .entry)) (now (stm .entry)) platform (length (now (pages .entry)))) (now (pages .entry)) ⌝ }
+    ensures measurement { λ _. ⌜ now (measurement .exit) ≡ measurementOf (inputOf (now (window .entry)) (now (heap .entry)) (now (sinit .entry)) (now («record» .entry)) (now (stm .entry)) platform (length (now (pages .entry)))) ⌝ }
 {
-    let outcome = judge(window, heap, sinit, record, platform, pages.len());
+    let outcome = judge(window, heap, sinit, record, stm, platform, pages.len());
     let image = outcome.image;
     mle::write_pages(window, image, pages);
     let shown = outcome.measurement;
@@ -99,12 +101,22 @@ pub fn check(
     heap: &[u8],
     sinit: &[u8],
     record: &[u8],
+    stm: &[u8],
     platform: Platform,
     pages: &mut [u64],
 ) -> Answer
-    ensures answer { λ r. ⌜ r ≡ answerOf (inputOf (now (window .entry)) (now (heap .entry)) (now (sinit .entry)) (now («record» .entry)) platform (length (now (pages .entry)))) ⌝ }
-    ensures places { λ _. ⌜ now (pages .exit) ≡ placesOf (inputOf (now (window .entry)) (now (heap .entry)) (now (sinit .entry)) (now («record» .entry)) platform (length (now (pages .entry)))) (now (pages .entry)) ⌝ }
+    ensures answer { λ r. ⌜ r ≡ answerOf (inputOf (now (window .entry)) (now (heap .entry)) (now (sinit .entry)) (now («record» .entry)) (now (stm .entry)) platform (length (now (pages .entry)))) ⌝ }
+    ensures places { λ _. ⌜ now (pages .exit) ≡ placesOf (inputOf (now (window .entry)) (now (heap .entry)) (now (sinit .entry)) (now («record» .entry)) (now (stm .entry)) platform (length (now (pages .entry)))) (now (pages .entry)) ⌝ }
 {
     let mut shown = [0u8; 32];
-    check_measured(window, heap, sinit, record, platform, pages, &mut shown)
+    check_measured(
+        window,
+        heap,
+        sinit,
+        record,
+        stm,
+        platform,
+        pages,
+        &mut shown,
+    )
 }

@@ -12,8 +12,8 @@ use Rattle.policy_answers.specs.declared.ListAnswer.the-variants as list
 use Rattle.policy_answers.specs.declared.PartAnswer.{PartAnswer}
 use Rattle.policy_answers.specs.declared.PartAnswer.the-variants as parts
 use Rattle.policy_answers.specs.declared.ElementAnswer.{ElementAnswer}
-use Rattle.policy_answers.specs.declared.ElementAnswer.the-variants.{Launch, Custom, Unjudged, Refused}
-use Rattle.policy_grammar.specs.Grammar.{Body, Element, elementBytes, Signing, PolicyList, listBytes, Reading}
+use Rattle.policy_answers.specs.declared.ElementAnswer.the-variants.{Launch, Stm, Custom, Unjudged, Refused}
+use Rattle.policy_grammar.specs.Grammar.{Body, customType, Element, elementBytes, Signing, PolicyList, listBytes, Reading}
 use Rattle.policy_grammar.specs.Grammar as Grammar
 use Rattle.policy_grammar.specs.Sizes.{firstList, sized}
 
@@ -37,11 +37,12 @@ listSize (lists.Unsigned start size version es n) = size
 listSize (lists.Signed start size version es n c k key signature) = size
 listSize lists.Absent = 0
 
--- an element that starts at an offset: of type 0x10 a launch element, of type 3 custom, of another type unjudged
+-- an element that starts at an offset: of type 0x10 a launch element, of type 0x14 an STM element, of type 3 custom, of another type unjudged
 abbrev pub bodyShown : ℕ → ℕ → ℕ → ℕ → Body → ElementAnswer
 bodyShown start size type control (Grammar.launch b) =
     Launch start size control (b .sinitMinVersion) (b .reserved) (b .digests .hashAlg) (b .digests .count)
-bodyShown start size type control (Grammar.other b) = cond (eqb type 3) (Custom start size control) (Unjudged start size type control)
+bodyShown start size type control (Grammar.stm d) = Stm start size control (d .hashAlg) (d .count)
+bodyShown start size type control (Grammar.other b) = cond (eqb type customType) (Custom start size control) (Unjudged start size type control)
 
 abbrev pub elementShown : ℕ → Option Element → ElementAnswer
 elementShown start none = Refused
@@ -49,6 +50,7 @@ elementShown start (some e) = bodyShown start (e .size) (e .type) (e .control) (
 
 abbrev pub elementSize : ElementAnswer → ℕ
 elementSize (Launch start size control m v a n) = size
+elementSize (Stm start size control a n) = size
 elementSize (Custom start size control) = size
 elementSize (Unjudged start size type control) = size
 elementSize Refused = 0

@@ -10,8 +10,8 @@ use Rattle.policy_answers.specs.declared.ListAnswer.the-variants as list
 use Rattle.policy_answers.specs.declared.PartAnswer.{PartAnswer}
 use Rattle.policy_answers.specs.declared.PartAnswer.the-variants as parts
 use Rattle.policy_answers.specs.declared.ElementAnswer.{ElementAnswer}
-use Rattle.policy_answers.specs.declared.ElementAnswer.the-variants.{Launch, Custom, Unjudged, Refused}
-use Rattle.policy_grammar.specs.Grammar.{Element, elementBytes, digestLength, Signature, Signing, PolicyList, listBytes}
+use Rattle.policy_answers.specs.declared.ElementAnswer.the-variants.{Launch, Stm, Custom, Unjudged, Refused}
+use Rattle.policy_grammar.specs.Grammar.{Digests, Element, elementBytes, digestLength, launchType, customType, stmType, Signature, Signing, PolicyList, listBytes}
 use Rattle.policy_grammar.specs.Grammar as Grammar
 use Rattle.policy_answers.specs.Parts.{partAt, bodyOf}
 
@@ -54,27 +54,27 @@ abbrev pub seenPart : List ℕ → PartAnswer → Option (List ℕ)
 seenPart s (parts.At start len) = some (partAt s start len)
 seenPart s parts.Absent = none
 
--- an element: every field; a launch element has type 0x10 and a custom one type 3; the body is the bytes after the first 12, and the digests of a
--- launch element are those after 6 more, cut into pieces of the algorithm's length
+-- an element: every field; the case of its answer says the type of a launch, an STM or a custom element; the body is the bytes after the first 12. The
+-- digests of an STM element follow 4 bytes of it, and those of a launch element 6, cut into pieces of the algorithm's length
 unfoldable pub pieces : ℕ → ℕ → List ℕ → List (List ℕ)
 pieces zero k b = []
 pieces (suc n) k b = take k b ∷ pieces n k (drop k b)
+
+abbrev pub seenDigests : ℕ → ℕ → List ℕ → Digests
+seenDigests a n b = record { hashAlg = a; count = n; digests = pieces n (digestLength a) b }
 
 abbrev pub seenElement : List ℕ → ElementAnswer → Option Element
 seenElement s (Launch start size control m v a n) =
     some (record {
       size = size;
-      type = 0x10;
+      type = launchType;
       control = control;
-      body =
-          Grammar.launch (record {
-            sinitMinVersion = m;
-            reserved = v;
-            digests = record { hashAlg = a; count = n; digests = pieces n (digestLength a) (drop 18 (partAt s start size)) };
-          });
+      body = Grammar.launch (record { sinitMinVersion = m; reserved = v; digests = seenDigests a n (drop 6 (drop 12 (partAt s start size))) });
     })
+seenElement s (Stm start size control a n) =
+    some (record { size = size; type = stmType; control = control; body = Grammar.stm (seenDigests a n (drop 4 (drop 12 (partAt s start size)))) })
 seenElement s (Custom start size control) =
-    some (record { size = size; type = 3; control = control; body = Grammar.other (drop 12 (partAt s start size)) })
+    some (record { size = size; type = customType; control = control; body = Grammar.other (drop 12 (partAt s start size)) })
 seenElement s (Unjudged start size type control) =
     some (record { size = size; type = type; control = control; body = Grammar.other (drop 12 (partAt s start size)) })
 seenElement s Refused = none

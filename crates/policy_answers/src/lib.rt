@@ -13,6 +13,18 @@ pub use sizes::digest_length;
 pub use sizes::element_size;
 pub use sizes::list_size;
 
+// The types of the elements that are judged.
+pub const LAUNCH_TYPE: usize = 0x10;
+
+pub const STM_TYPE: usize = 0x14;
+
+pub const CUSTOM_TYPE: usize = 3;
+
+// The offset of the first digest in the body of a launch element, and of an STM element.
+pub const LAUNCH_DIGESTS: usize = 6;
+
+pub const STM_DIGESTS: usize = 4;
+
 // What a string is: accepted, with the number of its lists, or refused. `numberOf` of specs/Seen.antt gives each its number: 0, 26, 27.
 pub enum FileAnswer {
     Accepted { lists: usize },
@@ -58,6 +70,13 @@ pub enum ElementAnswer {
         control: usize,
         sinit_min_version: usize,
         reserved: usize,
+        hash_alg: usize,
+        count: usize,
+    },
+    Stm {
+        start: usize,
+        size: usize,
+        control: usize,
         hash_alg: usize,
         count: usize,
     },

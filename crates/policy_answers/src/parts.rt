@@ -94,6 +94,7 @@ pub fn body(s: &[u8], e: ElementAnswer) -> &[u8]
 {
     match e {
         ElementAnswer::Launch { start, size, .. } => after_head(s, start, size),
+        ElementAnswer::Stm { start, size, .. } => after_head(s, start, size),
         ElementAnswer::Custom { start, size, .. } => after_head(s, start, size),
         ElementAnswer::Unjudged { start, size, .. } => after_head(s, start, size),
         ElementAnswer::Refused => &s[..0],

@@ -23,6 +23,7 @@ pub fn element_size(e: ElementAnswer) -> usize
 {
     match e {
         ElementAnswer::Launch { size, .. } => size,
+        ElementAnswer::Stm { size, .. } => size,
         ElementAnswer::Custom { size, .. } => size,
         ElementAnswer::Unjudged { size, .. } => size,
         ElementAnswer::Refused => 0,

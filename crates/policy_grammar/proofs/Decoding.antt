@@ -13,7 +13,7 @@ use borrow.Author.Tests.{le-leb, eq-eqb, ne-eqb, leb-true, eqb-true, eqb-false}
 use Rattle.field.specs.Number.{Bytes, bytes}
 use Rattle.field.specs.Field.{same}
 use Rattle.field.proofs.Laws.{length-bytes, same-true, same-refl}
-use Rattle.policy_grammar.specs.Grammar.{digestsBytes, ValidDigests, Launch, Body, launchBytes, bodyBytes, Element, elementBytes, digestLength, All, ValidLaunch, ValidBody, ValidElement, Signature, Signing, signatureBytes, signingBytes, ValidSignature, ValidSigning, PolicyList, listBytes, ValidList, Reading, fileBytes, ValidReading, Makes, markCharacters}
+use Rattle.policy_grammar.specs.Grammar.{Digests, digestsBytes, ValidDigests, launchType, stmType, Launch, Body, launchBytes, bodyBytes, Element, elementBytes, digestLength, All, ValidLaunch, ValidBody, ValidElement, Signature, Signing, signatureBytes, signingBytes, ValidSignature, ValidSigning, PolicyList, listBytes, ValidList, Reading, fileBytes, ValidReading, Makes, markCharacters}
 use Rattle.policy_grammar.specs.Grammar as Grammar
 use Rattle.policy_grammar.specs.Format.{done, string, any, anyBytes, rest, inside, times, many}
 use Rattle.policy_grammar.specs.Layout as Layout
@@ -80,7 +80,7 @@ digests-complete d t h =
     (times-complete itself (Long k) (string k anyBytes) (digest-complete k) (d .count) (d .digests) t (h .digest-lengths, h .counted)) (done-complete d t))))
 
 -- a body
-launch-sound : Sound Layout.launch (Made bodyBytes (ValidBody 0x10))
+launch-sound : Sound Layout.launch (Made bodyBytes (ValidBody launchType))
 unfolding Layout.launch
 launch-sound =
     number-sound 1 any _ _ λ m hm _ _. number-sound 1 any _ _ λ v hv _ _.
@@ -96,19 +96,30 @@ launch-complete b t h =
     (number-complete 1 any _ (b .reserved) _ _ t (h .reserved-fits) refl
     (then-stands _ Layout.digests (b .digests) _ (digestsBytes (b .digests) ++ t) t t (digests-complete (b .digests) t (h .digests-valid)) (done-complete _ t))))
 
+stm-sound : Sound Layout.stm (Made bodyBytes (ValidBody stmType))
+unfolding Layout.stm
+stm-sound = then-sound Layout.digests _ _ _ digests-sound λ ds x d. done-sound (Grammar.stm ds) _ ((refl, d .0), rw (append-nil, d .1))
+
+stm-complete : (d : Digests) (t : List ℕ) → ValidDigests d → Stands Layout.stm (Grammar.stm d) (digestsBytes d ++ t) t
+unfolding Layout.stm
+stm-complete d t h = then-stands _ Layout.digests d _ (digestsBytes d ++ t) t t (digests-complete d t h) (done-complete _ t)
+
 body-sound : (type : ℕ) → Sound (Layout.body type) (Made bodyBytes (ValidBody type))
 unfolding Layout.body Layout.other
-body-sound type = go (eqb type 0x10) refl
+body-sound type = go (eqb type launchType) (eqb type stmType) refl refl
   where
-    go : (x : Bool) → eqb type 0x10 ≡ x → Sound (cond x Layout.launch Layout.other) (Made bodyBytes (ValidBody type))
-    go true e = rw (eqb-true type 0x10 e) launch-sound
-    go false e = then-sound rest _ _ _ rest-sound λ b x d. done-sound (Grammar.other b) _ (eqb-false type 0x10 e, d ∙ sym (append-nil x))
+    go : (x y : Bool) → eqb type launchType ≡ x → eqb type stmType ≡ y → Sound (cond x Layout.launch (cond y Layout.stm Layout.other)) (Made bodyBytes (ValidBody type))
+    go true y e q = rw (eqb-true type launchType e) launch-sound
+    go false true e q = rw (eqb-true type stmType q) stm-sound
+    go false false e q =
+        then-sound rest _ _ _ rest-sound λ b x d. done-sound (Grammar.other b) _ ((eqb-false type launchType e, eqb-false type stmType q), d ∙ sym (append-nil x))
 
 body-complete : (type : ℕ) (b : Body) → ValidBody type b → Stands (Layout.body type) b (bodyBytes b) []
 unfolding Layout.body Layout.other
 body-complete type (Grammar.launch b) h = rw (h .0) (rw append-nil at (launch-complete b [] (h .1)))
+body-complete type (Grammar.stm d) h = rw (h .0) (rw append-nil at (stm-complete d [] (h .1)))
 body-complete type (Grammar.other b) h =
-    rw (ne-eqb type 0x10 h) (then-stands _ rest b (Grammar.other b) b [] [] (rest-complete b) (done-complete (Grammar.other b) []))
+    rw (ne-eqb type launchType (h .0), ne-eqb type stmType (h .1)) (then-stands _ rest b (Grammar.other b) b [] [] (rest-complete b) (done-complete (Grammar.other b) []))
 
 -- an element
 pub element-length : (e : Element) → length (elementBytes e) ≡ 12 + length (bodyBytes (e .body))

@@ -24,9 +24,10 @@ pub record Launch : Type 0 where
   pub reserved : ℕ
   pub digests : Digests
 
--- the body of an element of type 0x10, or "the body of another type", which "may hold anything"
+-- the body of an element of type 0x10, of an element of type 0x14, which is digests alone, or "the body of another type", which "may hold anything"
 pub data Body : Type 0 where
   launch : Launch → Body
+  stm : Digests → Body
   other : List ℕ → Body
 
 -- "Element: size (32) ..; type (32), control (32), body"
@@ -73,6 +74,7 @@ launchBytes b = Number.bytes 1 (b .sinitMinVersion) ++ (Number.bytes 1 (b .reser
 
 abbrev pub bodyBytes : Body → List ℕ
 bodyBytes (launch b) = launchBytes b
+bodyBytes (stm d) = digestsBytes d
 bodyBytes (other b) = b
 
 abbrev pub elementBytes : Element → List ℕ
@@ -122,10 +124,21 @@ pub record ValidLaunch (b : Launch) : Type 0 where
   pub reserved-fits : b .reserved < 256 ^ 1
   pub digests-valid : ValidDigests (b .digests)
 
--- an element of type 0x10, and no other, has a launch body
+-- the types of the elements that are judged: launch, custom and STM
+abbrev pub launchType : ℕ
+launchType = 0x10
+
+abbrev pub customType : ℕ
+customType = 3
+
+abbrev pub stmType : ℕ
+stmType = 0x14
+
+-- an element of type 0x10, and no other, has a launch body, and one of type 0x14, and no other, an STM body
 abbrev pub ValidBody : ℕ → Body → Type 0
-ValidBody type (launch b) = (type ≡ 0x10) × ValidLaunch b
-ValidBody type (other b) = type ≢ 0x10
+ValidBody type (launch b) = (type ≡ launchType) × ValidLaunch b
+ValidBody type (stm d) = (type ≡ stmType) × ValidDigests d
+ValidBody type (other b) = (type ≢ launchType) × (type ≢ stmType)
 
 pub record ValidElement (e : Element) : Type 0 where
   pub size-fits : e .size < 256 ^ 4

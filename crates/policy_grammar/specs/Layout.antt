@@ -6,7 +6,7 @@ use mathlib.Core.List.{List, [], _∷_, _++_}
 use lib.ListN.{take, drop}
 use lib.Dec.{leb, eqb}
 use Rattle.field.specs.Field.{same}
-use Rattle.policy_grammar.specs.Grammar.{Digests, Body, Element, digestLength, Signing, PolicyList, Reading, markCharacters, mostLists}
+use Rattle.policy_grammar.specs.Grammar.{Digests, Body, Element, digestLength, launchType, stmType, Signing, PolicyList, Reading, markCharacters, mostLists}
 use Rattle.policy_grammar.specs.Grammar as Grammar
 use Rattle.policy_grammar.specs.Format.{Format, _>>=_, done, number, string, any, anyBytes, rest, inside, times, many}
 
@@ -24,13 +24,18 @@ launch = do
   ds ← digests
   done (Grammar.launch (record { sinitMinVersion = m; reserved = v; digests = ds }))
 
+unfoldable pub stm : Format Body
+stm = do
+  ds ← digests
+  done (Grammar.stm ds)
+
 unfoldable pub other : Format Body
 other = do
   b ← rest
   done (Grammar.other b)
 
 unfoldable pub body : ℕ → Format Body
-body type = cond (eqb type 0x10) launch other
+body type = cond (eqb type launchType) launch (cond (eqb type stmType) stm other)
 
 -- the size counts itself, which is 4 bytes
 unfoldable pub element : Format Element

@@ -17,7 +17,7 @@ use Rattle.field.specs.Number.{Bytes, bytes}
 use Rattle.field.specs.Number as Number
 use Rattle.field.specs.Field.{numberAt}
 use Rattle.field.proofs.Laws.{bytes-drop, number-bytes}
-use Rattle.policy_grammar.specs.Grammar.{digestLength, Digests, digestsBytes, Body, Element}
+use Rattle.policy_grammar.specs.Grammar.{digestLength, Digests, digestsBytes, Body, launchType, customType, stmType, Element}
 use Rattle.policy_grammar.specs.Grammar as Grammar
 use Rattle.policy_grammar.specs.Format.{Format, done, _>>=_, number, string, any, anyBytes, rest, inside, times}
 use Rattle.policy_grammar.specs.Parser.{Read, value, fault, valueOf, succeeds, after, continue, exactly, read, filling, fills}
@@ -27,7 +27,7 @@ use Rattle.policy_grammar.specs.Fault.{Stands}
 use Rattle.policy_answers.specs.Answers.{elementShown}
 use Rattle.policy_reader.specs.Inner.{withBody}
 use Rattle.policy_answers.specs.declared.ElementAnswer.{ElementAnswer}
-use Rattle.policy_answers.specs.declared.ElementAnswer.the-variants.{Launch, Custom, Unjudged, Refused}
+use Rattle.policy_answers.specs.declared.ElementAnswer.the-variants.{Launch, Stm, Custom, Unjudged, Refused}
 use Rattle.policy_grammar.proofs.Formats.{read-then, then-stands}
 use Rattle.policy_grammar.proofs.Soundness.{done-complete, rest-complete, filling-value, fills-with, fills-none}
 use Rattle.policy_grammar.proofs.Decoding.{digests-sound}
@@ -122,10 +122,27 @@ digests-numbers s d b h =
       rw (← w) (omega arith),
     )
 
+-- a body that ends with digests, which stand at an offset of it
+module _ (b : List ℕ) (F : Format Body) (with : Digests → Body) (at : ℕ) (to-digests : valueOf (filling F b) ≡ Option·map with (valueOf (filling Layout.digests (drop at b)))) where
+  no-digests : fills Layout.digests (drop at b) ≡ false → valueOf (filling F b) ≡ none
+  no-digests e = to-digests ∙ rw (fills-none Layout.digests (drop at b) e)
+
+  some-digests : Bytes b → fills Layout.digests (drop at b) ≡ true → (a n : ℕ) → a ≡ numberAt b at 2 → n ≡ numberAt b (at + 2) 2
+      → (d : Digests) × (valueOf (filling F b) ≡ some (with d)) × (d .hashAlg ≡ a) × (d .count ≡ n)
+  some-digests bs e a n ea en =
+      let (d, st) = fills-with Layout.digests (drop at b) e in
+      let (i, j, l) = digests-numbers (drop at b) d (bytes-drop at b bs) st in
+      let u : at + 4 ≤ length b = omega (arith, length-drop at b) in (
+        d,
+        to-digests ∙ rw (filling-value Layout.digests (drop at b) d st),
+        i ∙ at-offset b at 2 tt tt ea (omega arith),
+        j ∙ ap (Number.number 2) (drop-drop 2 at b) ∙ at-offset b (at + 2) 2 tt tt en (omega arith),
+      )
+
 -- a launch element's body
 module _ (b : List ℕ) (start size control : ℕ) where
   abbrev launched : ElementAnswer
-  launched = elementShown start (Option·map (withBody size 0x10 control) (valueOf (filling Layout.launch b)))
+  launched = elementShown start (Option·map (withBody size launchType control) (valueOf (filling Layout.launch b)))
 
   abbrev with : ℕ → ℕ → Digests → Body
   with m v ds = Grammar.launch (record { sinitMinVersion = m; reserved = v; digests = ds })
@@ -148,16 +165,29 @@ module _ (b : List ℕ) (start size control : ℕ) where
         last-filling Layout.launch b 2 Layout.digests (with m v) u₂ h
 
     pub launch-other : not w ≡ true → Refused ≡ launched
-    launch-other q = rw (to-digests _ _ refl refl, fills-none Layout.digests (drop 2 b) (w-is ∙ not-true w q))
+    launch-other q = rw (no-digests b Layout.launch (with _ _) 2 (to-digests _ _ refl refl) (w-is ∙ not-true w q))
 
     pub launch-yes : not w ≡ false → (m v a n : ℕ) → m ≡ numberAt b 0 1 → v ≡ numberAt b 1 1 → a ≡ numberAt b 2 2 → n ≡ numberAt b 4 2 → Launch start size control m v a n ≡ launched
     launch-yes q m v a n em ev ea en =
-        let (d, st) = fills-with Layout.digests (drop 2 b) (w-is ∙ not-false w q) in
-        let (i, j, l) = digests-numbers (drop 2 b) d (bytes-drop 2 b (λ k. bs k .fits)) st in
-        let e : drop 2 (drop 2 b) ≡ drop 4 b = drop-drop 2 2 b in
-        let i′ : d .hashAlg ≡ a = i ∙ at-offset b 2 2 tt tt ea (omega (arith, length-drop 2 b)) in
-        let j′ : d .count ≡ n = j ∙ ap (Number.number 2) e ∙ at-offset b 4 2 tt tt en (omega (arith, length-drop 2 b)) in
-        rw (to-digests m v em ev, filling-value Layout.digests (drop 2 b) d st, i′, j′)
+        let (d, e, i, j) = some-digests b Layout.launch (with m v) 2 (to-digests m v em ev) (λ k. bs k .fits) (w-is ∙ not-false w q) a n ea en in
+        rw (e, i, j)
+
+-- an STM element's body
+module _ (b : List ℕ) (start size control : ℕ) (bs : (i : ℕ) → Fits w8 (getD b i 0)) (w : Bool) (ew : w ≡ fills Layout.digests b) where
+  abbrev monitored : ElementAnswer
+  monitored = elementShown start (Option·map (withBody size stmType control) (valueOf (filling Layout.stm b)))
+
+  all-digests : valueOf (filling Layout.stm b) ≡ Option·map Grammar.stm (valueOf (filling Layout.digests (drop 0 b)))
+  unfolding Layout.stm
+  all-digests = last-filling Layout.stm b 0 Layout.digests Grammar.stm (upto-start Layout.stm b) (omega arith)
+
+  pub stm-other : not w ≡ true → Refused ≡ monitored
+  stm-other q = rw (no-digests b Layout.stm Grammar.stm 0 all-digests (sym ew ∙ not-true w q))
+
+  pub stm-yes : not w ≡ false → (a n : ℕ) → a ≡ numberAt b 0 2 → n ≡ numberAt b 2 2 → Stm start size control a n ≡ monitored
+  stm-yes q a n ea en =
+      let (d, e, i, j) = some-digests b Layout.stm Grammar.stm 0 all-digests (λ k. bs k .fits) (sym ew ∙ not-false w q) a n ea en in
+      rw (e, i, j)
 
 -- the element at the front of t
 abbrev sizeRule : ℕ → ℕ → Bool
@@ -209,16 +239,22 @@ module _ (s : List ℕ) (start : ℕ) where
           let u₁₂ = number-holds Layout.element s 8 4 any _ u₈ tt tt ec (omega arith) refl in
           last-value Layout.element s 12 (inside (n - 12) (Layout.body t)) (withBody n t c) u₁₂ ∙ ap (Option·map (withBody n t c)) (inside-value (n - 12) (Layout.body t) (drop 12 s) b-length)
 
-      pub element-launch : (r : ElementAnswer) → t ≡ 0x10 → r ≡ elementShown start (Option·map (withBody n 0x10 c) (valueOf (filling Layout.launch b))) → r ≡ judged
+      pub element-launch : (r : ElementAnswer) → t ≡ launchType → r ≡ elementShown start (Option·map (withBody n launchType c) (valueOf (filling Layout.launch b))) → r ≡ judged
       unfolding Layout.body
       element-launch r e q = rw (to-body, e) q
 
-      other-body : (t ≡ 0x10 → ⊥) → valueOf (filling (Layout.body t) b) ≡ some (Grammar.other b)
-      unfolding Layout.body Layout.other
-      other-body ne = rw (ne-eqb t 0x10 ne, filling-value Layout.other b (Grammar.other b) (then-stands _ rest b _ b [] [] (rest-complete b) (done-complete _ [])))
+      module _ (nl : t ≡ launchType → ⊥) where
+        pub element-stm : (r : ElementAnswer) → t ≡ stmType → r ≡ elementShown start (Option·map (withBody n stmType c) (valueOf (filling Layout.stm b))) → r ≡ judged
+        unfolding Layout.body
+        element-stm r e q = rw (to-body, e) q
 
-      pub element-custom : (t ≡ 0x10 → ⊥) → t ≡ 3 → Custom start n c ≡ judged
-      element-custom ne e = rw (to-body, other-body ne, eq-eqb t 3 e)
+        module _ (ns : t ≡ stmType → ⊥) where
+          other-body : valueOf (filling (Layout.body t) b) ≡ some (Grammar.other b)
+          unfolding Layout.body Layout.other
+          other-body = rw (ne-eqb t launchType nl, ne-eqb t stmType ns, filling-value Layout.other b (Grammar.other b) (then-stands _ rest b _ b [] [] (rest-complete b) (done-complete _ [])))
 
-      pub element-unjudged : (t ≡ 0x10 → ⊥) → (t ≡ 3 → ⊥) → Unjudged start n t c ≡ judged
-      element-unjudged ne ne′ = rw (to-body, other-body ne, ne-eqb t 3 ne′)
+          pub element-custom : t ≡ customType → Custom start n c ≡ judged
+          element-custom e = rw (to-body, other-body, eq-eqb t customType e)
+
+          pub element-unjudged : (t ≡ customType → ⊥) → Unjudged start n t c ≡ judged
+          element-unjudged nc = rw (to-body, other-body, ne-eqb t customType nc)

@@ -11,12 +11,12 @@ use lib.Dec.{eqb}
 use borrow.Author.Tests.{le-leb, eqb-true}
 use Rattle.field.specs.Number.{bytes}
 use Rattle.field.proofs.Laws.{length-bytes}
-use Rattle.policy_grammar.specs.Grammar.{All, Launch, Body, bodyBytes, ValidBody, Element, elementBytes, ValidElement, digestLength, Signature, Signing, signatureBytes, ValidSigning, PolicyList, listBytes, ValidList}
+use Rattle.policy_grammar.specs.Grammar.{All, Digests, ValidDigests, launchType, customType, stmType, Body, bodyBytes, ValidBody, Element, elementBytes, ValidElement, digestLength, Signature, Signing, signatureBytes, ValidSigning, PolicyList, listBytes, ValidList}
 use Rattle.policy_grammar.specs.Grammar as Grammar
 use Rattle.policy_answers.specs.Parts.{partAt, bodyOf}
 use Rattle.policy_answers.specs.Answers.{signingShown, listShown, listSize, bodyShown, elementShown, keyOf}
 use Rattle.policy_answers.specs.Answers as Answers
-use Rattle.policy_answers.specs.Seen.{seenList, listPart, seenPart, signedBy, signatureIn, pieces, seenElement, seenBody}
+use Rattle.policy_answers.specs.Seen.{seenList, listPart, seenPart, signedBy, signatureIn, pieces, seenDigests, seenElement, seenBody}
 use Rattle.policy_reader.specs.Offsets.{StandsAt}
 use Rattle.policy_answers.specs.declared.ElementAnswer.the-variants as elements
 use Rattle.policy_grammar.proofs.Decoding.{itself, Long, element-length}
@@ -118,6 +118,12 @@ pieces-are k (d ∷ ds) zero e h = absurd (omega arith)
 pieces-are k (d ∷ ds) (suc n) e h =
     rw (take-at d (flatMap itself ds) k (h .0), drop-at d (flatMap itself ds) k (h .0)) (ap (λ (x : List (List ℕ)). d ∷ x) (pieces-are k ds n (omega arith) (h .1)))
 
+digests-are : (d : Digests) → ValidDigests d → (b : List ℕ) → b ≡ flatMap itself (d .digests) → seenDigests (d .hashAlg) (d .count) b ≡ d
+digests-are d v b q =
+    let k : ℕ = digestLength (d .hashAlg) in
+    let w : pieces (d .count) k b ≡ d .digests = ap (pieces (d .count) k) q ∙ pieces-are k (d .digests) (d .count) (v .counted) (v .digest-lengths) in
+    λ i. record { hashAlg = d .hashAlg; count = d .count; digests = w i }
+
 module _ (s : List ℕ) (at : ℕ) (e : Element) (here : StandsAt elementBytes ValidElement s at e) where
   element-is : partAt s at (e .size) ≡ elementBytes e
   element-is =
@@ -128,38 +134,39 @@ module _ (s : List ℕ) (at : ℕ) (e : Element) (here : StandsAt elementBytes V
   unfolding bytes
   body-is = rw element-is
 
-  digests-are : (b : Launch) → e .body ≡ Grammar.launch b
-      → pieces (b .digests .count) (digestLength (b .digests .hashAlg)) (drop 18 (partAt s at (e .size))) ≡ b .digests .digests
-  unfolding bytes
-  digests-are b i =
-      let v : ValidBody (e .type) (Grammar.launch b) = rw i at (here .obeys .body-valid) in
-      let q : drop 18 (partAt s at (e .size)) ≡ flatMap itself (b .digests .digests) = sym (drop-drop 6 12 (partAt s at (e .size))) ∙ ap (drop 6) (body-is ∙ ap bodyBytes i) in
-      let w = v .1 .digests-valid in
-      rw q (pieces-are (digestLength (b .digests .hashAlg)) (b .digests .digests) (b .digests .count) (w .counted) (w .digest-lengths))
+  -- the body, where what it is is known
+  valid-as : (b : Body) → e .body ≡ b → ValidBody (e .type) b
+  valid-as b i = rw i at (here .obeys .body-valid)
+
+  bytes-as : (b : Body) → e .body ≡ b → drop 12 (partAt s at (e .size)) ≡ bodyBytes b
+  bytes-as b i = body-is ∙ ap bodyBytes i
+
+  seen-as : (b : Body) → e .body ≡ b → elementShown at (some e) ≡ bodyShown at (e .size) (e .type) (e .control) b
+  seen-as b i = ap (bodyShown at (e .size) (e .type) (e .control)) i
+
+  as-element : (type : ℕ) (b : Body) → type ≡ e .type → b ≡ e .body → some (record { size = e .size; type = type; control = e .control; body = b }) ≡ some e
+  as-element type b t i k = some (record { size = e .size; type = t k; control = e .control; body = i k })
 
   pub element-seen : seenElement s (elementShown at (some e)) ≡ some e
+  unfolding bytes
   element-seen = go (e .body) refl
     where
-      on : (x : Bool) → eqb (e .type) 3 ≡ x → (b : List ℕ) → e .body ≡ Grammar.other b
+      on : (x : Bool) → eqb (e .type) customType ≡ x → (b : List ℕ) → e .body ≡ Grammar.other b
           → seenElement s (cond x (elements.Custom at (e .size) (e .control)) (elements.Unjudged at (e .size) (e .type) (e .control))) ≡ some e
-      on true q b i =
-          let w : Grammar.other (drop 12 (partAt s at (e .size))) ≡ e .body = ap Grammar.other (body-is ∙ ap bodyBytes i) ∙ sym i in
-          let t : e .type ≡ 3 = eqb-true (e .type) 3 q in
-          λ k. some (record { size = e .size; type = sym t k; control = e .control; body = w k })
-      on false q b i =
-          let w : Grammar.other (drop 12 (partAt s at (e .size))) ≡ e .body = ap Grammar.other (body-is ∙ ap bodyBytes i) ∙ sym i in
-          λ k. some (record { size = e .size; type = e .type; control = e .control; body = w k })
+      on true q b i = as-element customType _ (sym (eqb-true (e .type) customType q)) (ap Grammar.other (bytes-as _ i) ∙ sym i)
+      on false q b i = as-element (e .type) _ refl (ap Grammar.other (bytes-as _ i) ∙ sym i)
 
       go : (b : Body) → e .body ≡ b → seenElement s (elementShown at (some e)) ≡ some e
       go (Grammar.launch b) i =
-          let v : ValidBody (e .type) (Grammar.launch b) = rw i at (here .obeys .body-valid) in
-          let d = digests-are b i in
-          let w : Grammar.launch (record { sinitMinVersion = b .sinitMinVersion; reserved = b .reserved; digests = record { hashAlg = b .digests .hashAlg; count = b .digests .count; digests = pieces (b .digests .count) (digestLength (b .digests .hashAlg)) (drop 18 (partAt s at (e .size))) } }) ≡ e .body =
-          (λ k. Grammar.launch (record { sinitMinVersion = b .sinitMinVersion; reserved = b .reserved; digests = record { hashAlg = b .digests .hashAlg; count = b .digests .count; digests = d k } })) ∙ sym i in
-          let t = v .0 in
-          ap (λ (x : Body). seenElement s (bodyShown at (e .size) (e .type) (e .control) x)) i
-          ∙ λ k. some (record { size = e .size; type = sym t k; control = e .control; body = w k })
-      go (Grammar.other b) i = ap (λ (x : Body). seenElement s (bodyShown at (e .size) (e .type) (e .control) x)) i ∙ on (eqb (e .type) 3) refl b i
+          let v = valid-as (Grammar.launch b) i in
+          let d = digests-are (b .digests) (v .1 .digests-valid) (drop 6 (drop 12 (partAt s at (e .size)))) (ap (drop 6) (bytes-as (Grammar.launch b) i)) in
+          ap (seenElement s) (seen-as (Grammar.launch b) i)
+          ∙ as-element launchType _ (sym (v .0)) (ap (λ (x : Digests). Grammar.launch (record { sinitMinVersion = b .sinitMinVersion; reserved = b .reserved; digests = x })) d ∙ sym i)
+      go (Grammar.stm d) i =
+          let v = valid-as (Grammar.stm d) i in
+          ap (seenElement s) (seen-as (Grammar.stm d) i)
+          ∙ as-element stmType _ (sym (v .0)) (ap Grammar.stm (digests-are d (v .1) (drop 4 (drop 12 (partAt s at (e .size)))) (ap (drop 4) (bytes-as (Grammar.stm d) i))) ∙ sym i)
+      go (Grammar.other b) i = ap (seenElement s) (seen-as (Grammar.other b) i) ∙ on (eqb (e .type) customType) refl b i
 
   pub body-seen : seenBody s (elementShown at (some e)) ≡ some (bodyBytes (e .body))
   body-seen = rw element-seen (ap some (go (e .body)))
@@ -170,4 +177,5 @@ module _ (s : List ℕ) (at : ℕ) (e : Element) (here : StandsAt elementBytes V
 
       go : (b : Body) → bodyOf s (bodyShown at (e .size) (e .type) (e .control) b) ≡ bodyBytes (e .body)
       go (Grammar.launch b) = body-is
-      go (Grammar.other b) = on (eqb (e .type) 3)
+      go (Grammar.stm d) = body-is
+      go (Grammar.other b) = on (eqb (e .type) customType)

@@ -14,7 +14,7 @@ use mir.Val.{Fits}
 use mir.Syntax.{w8}
 use Rattle.field.specs.Number.{Bytes}
 use Rattle.field.proofs.Laws.{bytes-drop, length-bytes}
-use Rattle.policy_grammar.specs.Grammar.{All, Body, Element, elementBytes, ValidElement, Signing, ValidSigning, signingBytes, PolicyList, listBytes, ValidList}
+use Rattle.policy_grammar.specs.Grammar.{All, Body, customType, Element, elementBytes, ValidElement, Signing, ValidSigning, signingBytes, PolicyList, listBytes, ValidList}
 use Rattle.policy_grammar.specs.Grammar as Grammar
 use Rattle.policy_grammar.specs.Parser.{Read, value, fault, valueOf, Parser}
 use Rattle.policy_grammar.specs.Layout as Layout
@@ -104,7 +104,8 @@ size-shown start e = go (e .body)
 
     go : (b : Body) → elementSize (bodyShown start (e .size) (e .type) (e .control) b) ≡ e .size
     go (Grammar.launch b) = refl
-    go (Grammar.other b) = on (eqb (e .type) 3)
+    go (Grammar.stm d) = refl
+    go (Grammar.other b) = on (eqb (e .type) customType)
 
 abbrev pub element : Kind
 element =

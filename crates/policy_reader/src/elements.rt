@@ -1,11 +1,15 @@
 // Elements: one that stands at an offset, and whether elements fill a part.
 use crate::numbers::number;
+use policy_answers::CUSTOM_TYPE;
 use policy_answers::ElementAnswer;
+use policy_answers::LAUNCH_TYPE;
+use policy_answers::STM_TYPE;
 use policy_answers::digest_length;
 use policy_answers::element_size;
 ghost use mathlib.Core.Path.{_≡_};
 ghost use mathlib.Core.Option.{Option·map};
 ghost use lib.ListN.{length, drop};
+ghost use Rattle.policy_grammar.specs.Grammar.{launchType, stmType};
 ghost use Rattle.policy_grammar.specs.Format.{many};
 ghost use Rattle.policy_grammar.specs.Parser.{valueOf, filling, fills};
 ghost use Rattle.policy_grammar.specs.Layout as Layout;
@@ -30,7 +34,7 @@ fn digests_fill(t: &[u8]) -> bool
 
 // The launch element at `start` that has the body b.
 fn launch(b: &[u8], start: usize, size: usize, control: usize) -> ElementAnswer
-    ensures { λ r. ⌜ r ≡ elementShown start (Option·map (withBody size 0x10 control) (valueOf (filling Layout.launch (now (b .entry))))) ⌝ }
+    ensures { λ r. ⌜ r ≡ elementShown start (Option·map (withBody size launchType control) (valueOf (filling Layout.launch (now (b .entry))))) ⌝ }
 {
     if b.len() < 2 {
         return ElementAnswer::Refused;
@@ -46,6 +50,22 @@ fn launch(b: &[u8], start: usize, size: usize, control: usize) -> ElementAnswer
         reserved: number(b, 1, 1),
         hash_alg: number(b, 2, 2),
         count: number(b, 4, 2),
+    }
+}
+
+// The STM element at `start` that has the body b, which is digests alone.
+fn stm(b: &[u8], start: usize, size: usize, control: usize) -> ElementAnswer
+    ensures { λ r. ⌜ r ≡ elementShown start (Option·map (withBody size stmType control) (valueOf (filling Layout.stm (now (b .entry))))) ⌝ }
+{
+    if !digests_fill(b) {
+        return ElementAnswer::Refused;
+    }
+    ElementAnswer::Stm {
+        start,
+        size,
+        control,
+        hash_alg: number(b, 0, 2),
+        count: number(b, 2, 2),
     }
 }
 
@@ -65,10 +85,13 @@ fn first_element(t: &[u8], start: usize) -> ElementAnswer
     }
     let kind = number(t, 4, 4);
     let control = number(t, 8, 4);
-    if kind == 0x10 {
+    if kind == LAUNCH_TYPE {
         return launch(&t[12..size], start, size, control);
     }
-    if kind == 3 {
+    if kind == STM_TYPE {
+        return stm(&t[12..size], start, size, control);
+    }
+    if kind == CUSTOM_TYPE {
         return ElementAnswer::Custom {
             start,
             size,

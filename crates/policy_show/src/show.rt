@@ -1,8 +1,13 @@
 // A policy file in lines: one for the file, each list, each element and each digest.
+use policy_answers::CUSTOM_TYPE;
 use policy_answers::ElementAnswer;
 use policy_answers::FileAnswer;
+use policy_answers::LAUNCH_DIGESTS;
+use policy_answers::LAUNCH_TYPE;
 use policy_answers::ListAnswer;
 use policy_answers::PartAnswer;
+use policy_answers::STM_DIGESTS;
+use policy_answers::STM_TYPE;
 
 fn text(b: &[u8]) {
     io::write_all(1, b);
@@ -37,21 +42,29 @@ fn bytes(b: &[u8]) {
     }
 }
 
-// The digests of an element's body b, each of k bytes, after its first 6 bytes.
-fn digests(b: &[u8], k: usize) {
+// The digests of an element's body b, each of k bytes, from `start` on.
+fn digests(b: &[u8], start: usize, k: usize) {
     if k == 0 {
         return;
     }
-    if b.len() < 6 {
+    if b.len() < start {
         return;
     }
-    let mut at = 6;
+    let mut at = start;
     while k <= b.len() - at {
         text(b"digest ");
         bytes(policy_answers::part_at(b, at, k));
         text(b"\n");
         at += k;
     }
+}
+
+// The algorithm and the count of the digests in an element's body b, then the digests, which stand from `start` on.
+fn named(b: &[u8], start: usize, hash_alg: usize, count: usize) {
+    hex(b" hashalg=", hash_alg, 4);
+    decimal(b" count=", count);
+    text(b"\n");
+    digests(b, start, policy_answers::digest_length(hash_alg));
 }
 
 // The start of an element's line: the number of its list and its own, what it is, where it stands, its type and its control.
@@ -77,23 +90,27 @@ fn element(s: &[u8], i: usize, j: usize, e: ElementAnswer) {
             hash_alg,
             count,
         } => {
-            head(i, j, b" launch", start, size, 0x10, control);
+            head(i, j, b" launch", start, size, LAUNCH_TYPE, control);
             decimal(b" sinitminversion=", sinit_min_version);
             decimal(b" reserved=", reserved);
-            hex(b" hashalg=", hash_alg, 4);
-            decimal(b" count=", count);
-            text(b"\n");
-            digests(
-                policy_answers::body(s, e),
-                policy_answers::digest_length(hash_alg),
-            );
+            named(policy_answers::body(s, e), LAUNCH_DIGESTS, hash_alg, count);
+        }
+        ElementAnswer::Stm {
+            start,
+            size,
+            control,
+            hash_alg,
+            count,
+        } => {
+            head(i, j, b" stm", start, size, STM_TYPE, control);
+            named(policy_answers::body(s, e), STM_DIGESTS, hash_alg, count);
         }
         ElementAnswer::Custom {
             start,
             size,
             control,
         } => {
-            head(i, j, b" custom", start, size, 3, control);
+            head(i, j, b" custom", start, size, CUSTOM_TYPE, control);
             text(b"\n");
         }
         ElementAnswer::Unjudged {

@@ -6,8 +6,7 @@ use mathlib.Core.Option.{Option, some, none}
 use lib.ListN.{replicate}
 use Rattle.field.specs.Number.{bytes}
 use Rattle.policy_grammar.specs.Grammar.{Element, markCharacters}
-use Rattle.decision.specs.declared.Criteria.{Criteria}
-use Rattle.decision.specs.Lists.{names}
+use Rattle.decision.specs.Lists.{Criteria, names}
 use Rattle.proved_cases.specs.Modules.{zeros}
 
 -- an unsigned list with no elements

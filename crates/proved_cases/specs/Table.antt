@@ -13,7 +13,7 @@ use Rattle.policy_grammar.specs.Decode.{element, accepted}
 use Rattle.policy_answers.specs.Answers.{fileShown}
 use Rattle.policy_answers.specs.Seen as policy
 use Rattle.field.specs.Number.{bytes}
-use Rattle.decision.specs.declared.Criteria.{Criteria}
+use Rattle.decision.specs.Lists.{Criteria}
 use Rattle.proved_cases.specs.Heaps.{heapElement, endElement, afterSize, osSinitData, heapBytes}
 use Rattle.proved_cases.specs.Policies.{fileWith, noDigest, sizeOf, namesIn}
 use Rattle.proved_cases.specs.Modules.{zeros, moduleWith}

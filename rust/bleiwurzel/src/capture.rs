@@ -1,9 +1,10 @@
 //! Capture files: all that a check needs in one file of at most 65,536 bytes.
 //!
 //! The mark `LPC`, 16-bit version 1, the platform in the order of [`Platform`], four 32-bit lengths (window, heap, module, record),
-//! then the four parts, and nothing after.
+//! then the four parts, and nothing after. There is no STM image in it.
 
 use crate::{text, Parts, Platform};
+use std::fmt;
 
 pub const MARK: &[u8; 3] = b"LPC";
 pub const VERSION: u16 = 1;
@@ -12,6 +13,26 @@ pub const HEAD: usize = 75;
 pub const MOST: usize = 65_536;
 /// The names of the four parts, and where in the head their lengths stand.
 pub const PARTS: [(&str, usize); 4] = [("window", 59), ("heap", 63), ("SINIT module", 67), ("policy record", 71)];
+
+/// Why parts make no capture.
+#[derive(Clone, Copy, Debug, PartialEq, Eq)]
+pub enum Unfit {
+    /// It would have so many bytes, which are over the limit.
+    Long(usize),
+    /// There is an STM image, and a capture would lose it.
+    Stm,
+}
+
+impl fmt::Display for Unfit {
+    fn fmt(&self, f: &mut fmt::Formatter) -> fmt::Result {
+        match self {
+            Unfit::Long(bytes) => write!(f, "a capture has at most {MOST} bytes, and these parts would make {bytes}"),
+            Unfit::Stm => f.write_str("a capture has no place for an STM image"),
+        }
+    }
+}
+
+impl std::error::Error for Unfit {}
 
 /// Why bytes are no capture: the field, what it should be and what it is.
 #[derive(Clone, Debug, PartialEq, Eq)]
@@ -76,15 +97,18 @@ pub fn split(capture: &[u8]) -> Result<(Parts<'_>, Platform), Fault> {
     let (window, rest) = rest.split_at(lengths[0] as usize);
     let (heap, rest) = rest.split_at(lengths[1] as usize);
     let (sinit, record) = rest.split_at(lengths[2] as usize);
-    Ok((Parts { window, heap, sinit, record }, platform(capture)))
+    Ok((Parts { window, heap, sinit, record, stm: &[] }, platform(capture)))
 }
 
-/// The capture of these parts, or the number of bytes that it would have where that is over the limit.
-pub fn make(parts: &Parts, platform: &Platform) -> Result<Vec<u8>, usize> {
+/// The capture of these parts.
+pub fn make(parts: &Parts, platform: &Platform) -> Result<Vec<u8>, Unfit> {
+    if !parts.stm.is_empty() {
+        return Err(Unfit::Stm);
+    }
     let all = [parts.window, parts.heap, parts.sinit, parts.record];
     let whole = HEAD + all.iter().map(|part| part.len()).sum::<usize>();
     if whole > MOST {
-        return Err(whole);
+        return Err(Unfit::Long(whole));
     }
     let mut capture = Vec::with_capacity(whole);
     capture.extend_from_slice(MARK);

@@ -12,6 +12,8 @@ extern "C" {
         sinit_length: usize,
         record: *const u8,
         record_length: usize,
+        stm: *const u8,
+        stm_length: usize,
         window_base: u64,
         heap_base: u64,
         sinit_base: u64,
@@ -52,7 +54,7 @@ pub fn check_measured(parts: &Parts, platform: &Platform, pages: &mut [u64]) -> 
     let mut counts = [0u32; 2];
     let mut digest = [0u8; 32];
     let mut measurement = [0u8; 32];
-    // SAFETY: each slice is passed with its own length; four are lent for reading and one for writing, and the borrow keeps the
+    // SAFETY: each slice is passed with its own length; five are lent for reading and one for writing, and the borrow keeps the
     // latter apart from them. The three arrays are this function's own.
     let number = unsafe {
         bleiwurzel_check_measured(
@@ -64,6 +66,8 @@ pub fn check_measured(parts: &Parts, platform: &Platform, pages: &mut [u64]) -> 
             parts.sinit.len(),
             parts.record.as_ptr(),
             parts.record.len(),
+            parts.stm.as_ptr(),
+            parts.stm.len(),
             platform.window_base,
             platform.heap_base,
             platform.sinit_base,

@@ -12,7 +12,7 @@ mod module;
 mod walk;
 
 use crate::text::{bytes, counted, digits, spaced};
-use crate::{capture, Parts, Platform, HIGHEST_END, MOST_HEAP, MOST_PAGES, MOST_WINDOW, PAGE_SIZE};
+use crate::{capture, Parts, Platform, HIGHEST_END, MOST_HEAP, MOST_PAGES, MOST_STM, MOST_WINDOW, PAGE_SIZE};
 pub use length::{Length, Lengths};
 pub use module::{only_length, HEADER_LENGTH};
 
@@ -109,7 +109,7 @@ fn all(parts: &Parts, at_hand: &AtHand, platform: &Platform, places: usize) -> S
     let reading = grammar::read(file.bytes, Some(file.base))?;
     lists::hash(&reading, file.bytes, &record)?;
     let digest = at_hand.digest.unwrap_or_else(|| image::digest(parts.window, platform.window_base, &mapped));
-    lists::permits(&reading, file.bytes, &module, &digest)
+    lists::permits(&reading, file.bytes, &lists::Criteria { module: &module, digest }, lists::Stm::of(parts.stm))
 }
 
 fn fail<T>(number: u32, place: impl Into<String>, expected: impl Into<String>, found: impl Into<String>) -> Step<T> {
@@ -150,6 +150,7 @@ fn limits(lengths: &Lengths, platform: &Platform) -> Step<()> {
     need(base % PAGE_SIZE == 0, 1, "window base of the platform", on_a_page(), format!("{base:#x}"))?;
     most("window", &lengths.window, MOST_WINDOW)?;
     most("heap", &lengths.heap, MOST_HEAP)?;
+    most("STM image", &lengths.stm, MOST_STM)?;
     ends("window", base, lengths.window.bytes, "window base", "its length")?;
     ends("heap", platform.heap_base, lengths.heap.bytes, "heap base", "its length")?;
     ends("DPR", platform.dpr_base, platform.dpr_size, "DPR base", "DPR size")

@@ -9,7 +9,7 @@
 //! let record = std::fs::read("policy.rec")?;
 //! let platform = Platform { window_base: 0x100000, heap_base: 0x300000, ..Platform::default() };
 //! let mut pages = vec![0; MOST_PAGES];
-//! match check(&Parts { window: &window, heap: &heap, sinit: &sinit, record: &record }, &platform, &mut pages) {
+//! match check(&Parts { window: &window, heap: &heap, sinit: &sinit, record: &record, stm: &[] }, &platform, &mut pages) {
 //!     Ok(permission) => println!("permitted: {:x?}", &pages[..permission.pages]),
 //!     Err(refusal) => println!("refused {}: {}", refusal.number, refusal.meaning()),
 //! }
@@ -41,6 +41,9 @@ pub struct Parts<'a> {
     pub sinit: &'a [u8],
     /// The policy record, 70 bytes.
     pub record: &'a [u8],
+    /// The STM image: exactly the bytes that SINIT measures, which are the STM's static image, and empty if there is none. All of it is
+    /// hashed, and no field of it is read.
+    pub stm: &'a [u8],
 }
 
 /// Numbers of the platform. All addresses are physical.
@@ -123,7 +126,7 @@ pub fn answer(parts: &Parts, platform: &Platform, pages: &mut [u64]) -> Answer {
     ffi::check(parts, platform, pages)
 }
 
-/// The same, and the digest of the pages where the number is 0 or 29, zeros else: a refusal 29 says that no list names this digest.
+/// The same, and the digest of the pages where the number is 0 or 29, zeros else: a refusal 29 says that no list permits this digest.
 pub fn answer_measured(parts: &Parts, platform: &Platform, pages: &mut [u64]) -> (Answer, [u8; 32]) {
     ffi::check_measured(parts, platform, pages)
 }

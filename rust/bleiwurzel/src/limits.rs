@@ -8,6 +8,8 @@ pub const HIGHEST_END: u64 = 1 << 52;
 pub const MOST_WINDOW: usize = 32 << 20;
 /// The most bytes of a TXT heap.
 pub const MOST_HEAP: usize = 1 << 20;
+/// The most bytes of an STM image.
+pub const MOST_STM: usize = 16 << 20;
 /// The most bytes of a SINIT module on any platform: it ends below 2^32.
 pub const MOST_MODULE: u64 = (1 << 32) - 1;
 /// The most entries of a SINIT module's chipset list.

@@ -42,27 +42,56 @@ pub struct Element {
     pub bytes: Range<usize>,
     pub kind: u32,
     pub control: u32,
-    /// Of type 0x10 only.
-    pub launch: Option<Launch>,
+    pub body: Body,
 }
 
-/// The body of a launch element, type 0x10.
+/// What of an element's body has fields.
+#[derive(Clone, Debug, PartialEq, Eq)]
+pub enum Body {
+    /// Of type 0x10: it names images.
+    Launch(Launch),
+    /// Of type 0x14: it names STM images.
+    Stm(Digests),
+    /// Of any other type, whose body has none.
+    Other,
+}
+
+/// The body of a launch element.
 #[derive(Clone, Debug, PartialEq, Eq)]
 pub struct Launch {
     pub sinit_min_version: u8,
     pub reserved: u8,
+    pub digests: Digests,
+}
+
+/// Digests of one algorithm, one behind the other, with which an element ends.
+#[derive(Clone, Debug, PartialEq, Eq)]
+pub struct Digests {
     pub hash_alg: u16,
-    pub digests: u16,
+    pub count: u16,
+}
+
+impl Element {
+    /// The digests of an element that names any.
+    pub fn digests(&self) -> Option<&Digests> {
+        match &self.body {
+            Body::Launch(launch) => Some(&launch.digests),
+            Body::Stm(digests) => Some(digests),
+            Body::Other => None,
+        }
+    }
 }
 
 /// The type of a launch element.
 pub const LAUNCH: u32 = 0x10;
-/// The elements that a list may hold besides launch elements and still permit.
+/// The type of an STM element.
+pub const STM: u32 = 0x14;
+/// The elements that a list may hold besides launch and STM elements and still permit.
 pub const CUSTOM: u32 = 3;
 /// The type of the custom elements that tboot's tools write.
 pub const TBOOT_CUSTOM: u32 = 0x13;
 
-/// The algorithm by which a list names an image, and by which the record names the policy file.
+/// The algorithm by which a list names an image or an STM image, and by which the record names the policy file.
 pub const SHA256: u16 = 0x000b;
 
 /// How many lists a policy file has, or 26 or 27.
@@ -110,18 +139,15 @@ pub fn element_at(file: &[u8], at: usize) -> Option<Element> {
 
 /// The element of a kind with its fields.
 fn element_of((answer, fields): (u32, [u64; 8])) -> Option<Element> {
-    let [start, size, kind, control, sinit_min_version, reserved, hash_alg, digests] = fields;
-    let launch = match answer {
+    let [start, size, kind, control, sinit_min_version, reserved, hash_alg, count] = fields;
+    let digests = Digests { hash_alg: hash_alg as u16, count: count as u16 };
+    let body = match answer {
         0 => return None,
-        1 => Some(Launch {
-            sinit_min_version: sinit_min_version as u8,
-            reserved: reserved as u8,
-            hash_alg: hash_alg as u16,
-            digests: digests as u16,
-        }),
-        _ => None,
+        1 => Body::Launch(Launch { sinit_min_version: sinit_min_version as u8, reserved: reserved as u8, digests }),
+        4 => Body::Stm(digests),
+        _ => Body::Other,
     };
-    Some(Element { bytes: span(start, size), kind: kind as u32, control: control as u32, launch })
+    Some(Element { bytes: span(start, size), kind: kind as u32, control: control as u32, body })
 }
 
 /// All lists of a policy file with their elements, in file order and from offset to offset; none of a refused string.
@@ -151,10 +177,10 @@ pub fn hindrance(signed: bool, elements: impl Iterator<Item = (u64, u32)>) -> Op
     if signed {
         return Some("it is signed, and signed lists do not permit yet".to_string());
     }
-    let (j, (at, kind)) = elements.enumerate().find(|(_, (_, kind))| *kind != LAUNCH && *kind != CUSTOM)?;
+    let (j, (at, kind)) = elements.enumerate().find(|(_, (_, kind))| ![LAUNCH, CUSTOM, STM].contains(kind))?;
     let whose = if kind == TBOOT_CUSTOM { ", as tboot's tools write custom elements," } else { "" };
     Some(format!(
-        "element {j} (file offset {at:#x}) has type {kind:#x}{whose} and only types {LAUNCH:#x} and {CUSTOM} are judged"
+        "element {j} (file offset {at:#x}) has type {kind:#x}{whose} and only types {LAUNCH:#x}, {CUSTOM} and {STM:#x} are judged"
     ))
 }
 
@@ -170,10 +196,11 @@ pub fn algorithm(hash_alg: u16) -> Option<(usize, &'static str)> {
     }
 }
 
-/// The offset of digest k of a launch element.
+/// Where digest k of a launch or an STM element stands. The digests fill the element up to its end.
 pub fn digest(element: &Element, k: usize) -> Option<Range<usize>> {
-    let launch = element.launch.as_ref()?;
-    let (length, _) = algorithm(launch.hash_alg)?;
-    let start = element.bytes.start + 18 + k * length;
-    (k < usize::from(launch.digests)).then_some(start..start + length)
+    let digests = element.digests()?;
+    let (length, _) = algorithm(digests.hash_alg)?;
+    let left = usize::from(digests.count).checked_sub(k).filter(|left| *left > 0)?;
+    let start = element.bytes.end.checked_sub(left * length)?;
+    Some(start..start + length)
 }

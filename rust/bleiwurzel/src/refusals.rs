@@ -88,10 +88,10 @@ macro_rules! make_policy {
     };
 }
 
-/// Makes a policy list of an element.
+/// Makes a policy list of a launch element, and of more.
 macro_rules! make_list {
-    () => {
-        "`lcp2_crtpollist --create --listver 0x201 --out policy.lst mle.elt`"
+    ($($more:literal)?) => {
+        concat!("`lcp2_crtpollist --create --listver 0x201 --out policy.lst mle.elt", $($more,)? "`")
     };
 }
 
@@ -99,24 +99,28 @@ pub static TEXTS: [Text; 30] = [
     Text {
         number: 1,
         name: "limits",
-        meaning: "The window base is no multiple of 4096, the window is over 32 MiB, the heap is over 1 MiB, or base plus size of window, \
-            heap or DPR is over 2^52.",
-        rule: "Window base mod 4096 = 0; window at most 33,554,432 bytes; heap at most 1,048,576 bytes; window base + window length, heap \
-            base + heap length and DPR base + DPR size each at most 2^52, added without wrapping, the DPR also at size 0.",
+        meaning: "The window base is no multiple of 4096, the window is over 32 MiB, the heap is over 1 MiB, the STM image is over 16 MiB, or \
+            base plus size of window, heap or DPR is over 2^52.",
+        rule: "Window base mod 4096 = 0; window at most 33,554,432 bytes; heap at most 1,048,576 bytes; STM image at most 16,777,216 bytes, \
+            also where no list asks for it; window base + window length, heap base + heap length and DPR base + DPR size each at most 2^52, \
+            added without wrapping, the DPR also at size 0.",
         causes: &[
             "A base was typed with a digit missing or too many, or decimal instead of hexadecimal.",
             "DPR top was given as DPR base, or base and size changed places.",
             "The window file is a dump of more memory than image, tables and policy file take.",
             "The heap file is a dump of the whole TXT region and not of the heap alone.",
+            "The STM file is a dump of all of SMRAM or MSEG and not the STM's static image.",
         ],
         technician: &[
             "Compare the platform numbers that were handed over with the host's registers, digit by digit.",
-            "Compare the sizes of the window file and the heap file with the limits (`ls -l`).",
+            "Compare the sizes of the window file, the heap file and the STM file with the limits (`ls -l`).",
             "DPR base is the DPR's top minus its size; with no DPR give 0 for both.",
         ],
         builder: &[
             "Place image, page tables and policy file so that one window of at most 32 MiB holds all of them.",
             "Dump the window from a page boundary on.",
+            "Hand over of an STM its static image alone: from the first byte of MSEG on as many bytes as StaticImageSize says, 32 bits at 2052 in \
+             the STM's header.",
         ],
     },
     Text {
@@ -533,11 +537,13 @@ pub static TEXTS: [Text; 30] = [
             from 36 on; nothing after. List: version (16) 0x0200 or 0x0201; signature algorithm (16) 0x0010 or 0x0014; elements size (32); \
             elements that fill it exactly; if signed, counter (16), key size (16) 256 or 384, key, signature. Element: size (32) ≥ 12, type \
             (32), control (32), body. Type 0x10 body: SINITMinVersion (8), reserved (8), HashAlg (16) 0x0004, 0x000B, 0x000C, 0x000D or \
-            0x0012, count (16), exactly that many digests.",
+            0x0012, count (16), exactly that many digests. Type 0x14 body: HashAlg, count and digests likewise, and nothing before them.",
         causes: &[
             "The size in OsSinitData is rounded up, so that bytes follow the last list.",
             "The file is a policy list (`.lst`) or a record (`.pol`) instead of the policy data file.",
             "The file has lists of version 0x0300 or signatures other than RSASSA.",
+            "The digests of a launch (0x10) or STM (0x14) element are of another length than its HashAlg has, or of another number than its count \
+             says, or its HashAlg is not known.",
             "The file is damaged.",
         ],
         technician: &[
@@ -549,6 +555,8 @@ pub static TEXTS: [Text; 30] = [
         builder: &[
             concat!("Make a list of version 0x200 or 0x201, unsigned or signed with RSASSA and 2,048 or 3,072 bits: ", make_list!(), "."),
             concat!("Then make the file of it: ", make_policy!(), "."),
+            "In an element that tboot's tools did not make, HashAlg stands at offset 14 if the type is 0x10 and at 12 if it is 0x14, and the digests \
+             fill the element up to its end.",
             "Have the loader write the file's exact size, not rounded to pages.",
         ],
     },
@@ -573,15 +581,19 @@ pub static TEXTS: [Text; 30] = [
         number: 29,
         name: "no list",
         meaning: "No list of the policy file permits this image.",
-        rule: "A list permits if it is unsigned, holds only elements of types 0x10 and 3, and one 0x10 element with HashAlg 0x000B names the \
-            image's digest and has SINITMinVersion (8 bits at 12 in the element) at most the module's AcmVersion. All of it in one and the same \
-            list and element.",
+        rule: "A list permits if it is unsigned, holds only elements of types 0x10, 3 and 0x14, and one 0x10 element with HashAlg 0x000B names \
+            the image's digest and has SINITMinVersion (8 bits at 12 in the element) at most the module's AcmVersion. All of it in one and the \
+            same list and element. If the list holds a 0x14 element, some 0x14 element of it with HashAlg 0x000B must name SHA-256 of the STM \
+            image too; without an STM image such a list does not permit.",
         causes: &[
             "The image was updated and the policy was not: its digest is in no element.",
             "tboot's tools write `custom` elements with type 0x13, not 3. Type 0x13 is not judged, so a list that holds one does not permit, even \
              if another element of it names the image.",
             "The list is signed. Signed lists are read and measured, but do not permit yet.",
-            "The list holds a platform configuration (0x11) or STM (0x14) element, which this check does not judge.",
+            "The list holds a platform configuration element (0x11), which this check does not judge.",
+            "The list holds an STM element (0x14), and no STM image was handed over: the host has no STM, or `--stm` was left out, or a capture was \
+             checked, which has none.",
+            "The STM was updated and the policy was not, or the STM file is not exactly the STM's static image.",
             "The digest is named with SHA-1, SHA-384 or another algorithm only.",
             "The element asks for a newer SINIT module than the image carries.",
         ],
@@ -589,13 +601,24 @@ pub static TEXTS: [Text; 30] = [
             "Compare the image's digest that the tool shows with the digests of `bleiwurzel policy FILE`. If it is not among them, image and \
              policy are of different releases.",
             "If it is among them, look at the reason that the tool gives for each list: signed, another type (0x13 is tboot's `custom`), another \
-             algorithm, SINITMinVersion.",
+             algorithm, SINITMinVersion, the STM image.",
+            "If an STM image is missing and the host has an STM, hand it over: `bleiwurzel check --stm FILE ..`. If the host has none, it needs a policy \
+             with a list without STM elements.",
+            "If the STM image is not named, compare its digest with those of the `stm` elements that `bleiwurzel policy FILE` shows. The file must have \
+             as many bytes as StaticImageSize says, 32 bits at 2052 in it, and be of the release of the policy.",
         ],
         builder: &[
             "Write the digest shown into a file, with a blank after every two digits: `echo DIGEST | sed 's/../& /g' > digest.txt`.",
             "Make an element of it: `lcp2_crtpolelt --create --type mle2 --alg sha256 --out mle.elt digest.txt`. The type is `mle2`; `mle` is a legacy \
              element, which does not permit.",
-            concat!("Put it into an unsigned list that holds nothing but `mle2` and type 3 elements: ", make_list!(), "."),
+            concat!("Put it into an unsigned list that holds nothing but `mle2`, `stm` and type 3 elements: ", make_list!(), "."),
+            "For hosts with an STM, write the STM image's digest (`sha256sum FILE`) into a file of its own: `echo STM-DIGEST | sed 's/../& /g' > stm.txt`.",
+            concat!(
+                "Make an element of that, `lcp2_crtpolelt --create --type stm --alg sha256 --out stm.elt stm.txt`, and put both into one list: ",
+                make_list!(" stm.elt"),
+                "."
+            ),
+            "Hosts without an STM need another list, without `stm` elements.",
             "Put `custom` elements of tboot's tools (type 0x13) into a list of their own, or write them with type 3.",
             concat!("Then make policy file and record anew, since PolicyHash changes: ", make_policy!(), "."),
         ],

@@ -7,6 +7,7 @@ mod json;
 #[path = "common/tool.rs"]
 mod tool;
 
+use bleiwurzel::sha256;
 use common::*;
 use std::ffi::{OsStr, OsString};
 use std::fs::{self, File};
@@ -73,9 +74,11 @@ fn standard_input_is_a_file_everywhere() {
     assert_eq!(ran(run_on(&capture, &["capture", "show", "-"])).out, run(&["capture", "show", &stored(PERMITTED)]).out);
     let policy = top().join("crates/policy_show/data/plain-0x201.data").to_string_lossy().into_owned();
     assert_eq!(ran(run_on(&fs::read(&policy).expect("a file"), &["policy", "-"])).out, run(&["policy", &policy]).out);
-    let words = written(&folder, &image(&Shape::default()));
+    let mut parts = Image { stm: b"an STM image".to_vec(), ..image(&Shape::default()) };
+    parts = with_lists(&parts, &[list(&[launch(0, &[sha256(&parts.bytes())]), stm(&[sha256(&parts.stm)])])]);
+    let words = written(&folder, &parts);
     let whole = run_with(&["check"], &words, &[]);
-    assert_eq!(whole.status, OK);
+    assert_eq!((whole.status, words.len()), (OK, 12));
     for at in (1..words.len()).step_by(2) {
         let bytes = fs::read(&words[at]).expect("a part");
         let mut words: Vec<&str> = ["check"].into_iter().chain(words.iter().map(String::as_str)).collect();

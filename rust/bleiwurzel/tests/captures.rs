@@ -2,26 +2,9 @@
 
 mod common;
 
+use bleiwurzel::capture::Unfit;
 use bleiwurzel::{answer, answer_capture, capture, finding, Answer, MOST_PAGES};
-use common::{captures, image, put, top, Shape, UNTOUCHED};
-use std::collections::HashMap;
-
-fn expected() -> HashMap<String, String> {
-    let text = std::fs::read_to_string(top().join("tests/captures_expected.tsv")).expect("the expected outputs");
-    text.lines()
-        .map(|line| line.split_once('\t').expect("a name, a tab, an output"))
-        .map(|(name, output)| (name.to_string(), output.replace("\\n", "\n")))
-        .collect()
-}
-
-/// What the capture program prints for an answer.
-fn printed(answer: &Answer, pages: &[u64]) -> String {
-    if answer.number != 0 {
-        return format!("refused {}\n", answer.number);
-    }
-    let addresses: String = pages[..answer.pages as usize].iter().map(|page| format!("{page:016x}\n")).collect();
-    format!("permitted pages={} list={}\n{addresses}", answer.pages, answer.list)
-}
+use common::{captures, image, outputs, printed, put, top, Shape, UNTOUCHED};
 
 fn untouched_after(pages: &[u64], count: u32) -> bool {
     pages[count as usize..].iter().all(|page| *page == UNTOUCHED)
@@ -29,7 +12,7 @@ fn untouched_after(pages: &[u64], count: u32) -> bool {
 
 #[test]
 fn every_capture_has_its_output() {
-    let expected = expected();
+    let expected = outputs(&top().join("tests/captures_expected.tsv"));
     let captures = captures();
     assert!(captures.len() >= 500, "only {} captures", captures.len());
     assert_eq!(captures.len(), expected.len(), "as many captures as expected outputs");
@@ -103,10 +86,20 @@ fn captures_of_65_536_bytes_and_one_more() {
     let found = |bytes: &[u8]| finding::first_in_capture(bytes, MOST_PAGES).map_or(0, |finding| finding.number);
     assert_eq!((number(&bytes), found(&bytes)), (0, 0));
     let more = with_spare(65_536 - small + 1);
-    assert_eq!(capture::make(&more.parts(), &more.platform), Err(65_537));
+    assert_eq!(capture::make(&more.parts(), &more.platform), Err(Unfit::Long(65_537)));
     bytes.push(0);
     put(&mut bytes, 59, more.window.len() as u64, 4);
     assert_eq!((number(&bytes), found(&bytes)), (30, 30), "all lengths are right, but it is too long");
+}
+
+/// A capture has no STM image, and is not made of parts that have one.
+#[test]
+fn a_capture_has_no_stm_image() {
+    let mut image = image(&Shape::default());
+    let bytes = capture::make(&image.parts(), &image.platform).expect("a capture");
+    assert!(capture::split(&bytes).expect("a capture").0.stm.is_empty());
+    image.stm = vec![0];
+    assert_eq!(capture::make(&image.parts(), &image.platform), Err(Unfit::Stm));
 }
 
 /// What is changed in a capture that is permitted, and the number that is answered then.

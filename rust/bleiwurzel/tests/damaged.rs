@@ -3,7 +3,7 @@
 
 mod common;
 
-use bleiwurzel::{answer, answer_capture, finding, Answer, Platform, MOST_HEAP, MOST_PAGES, MOST_WINDOW};
+use bleiwurzel::{answer, answer_capture, finding, policy, Answer, Platform, MOST_HEAP, MOST_PAGES, MOST_WINDOW};
 use common::*;
 use plain_sha256::digest_in_parts;
 use std::collections::BTreeMap;
@@ -124,9 +124,10 @@ fn damage_image(name: &str, mut image: Image, times: usize, seed: u64, counts: &
     let mut pages = vec![UNTOUCHED; MOST_PAGES];
     let platform = image.platform;
     for turn in 0..times {
-        let mut damages = [Damage::new(), Damage::new(), Damage::new(), Damage::new()];
+        let mut damages = [(); 5].map(|()| Damage::new());
+        let kinds = if image.stm.is_empty() { 13 } else { 14 };
         for _ in 0..=dice.below(3) {
-            match dice.below(13) {
+            match dice.below(kinds) {
                 0..=3 => {
                     let at = place_in_window(&mut dice, &image);
                     damages[0].hit(&mut dice, &mut image.window, at);
@@ -144,7 +145,11 @@ fn damage_image(name: &str, mut image: Image, times: usize, seed: u64, counts: &
                     damages[3].hit(&mut dice, &mut image.record, at);
                 }
                 11 => damage_platform(&mut dice, &mut image.platform),
-                _ => damages[0].name_a_page(&mut dice, &mut image),
+                12 => damages[0].name_a_page(&mut dice, &mut image),
+                _ => {
+                    let at = dice.below(image.stm.len());
+                    damages[4].hit(&mut dice, &mut image.stm, at);
+                }
             }
         }
         let name = format!("{name}, damage {turn}");
@@ -160,6 +165,7 @@ fn damage_image(name: &str, mut image: Image, times: usize, seed: u64, counts: &
         damages[1].repair(&mut image.heap);
         damages[2].repair(&mut image.sinit);
         damages[3].repair(&mut image.record);
+        damages[4].repair(&mut image.stm);
         image.platform = platform;
     }
     let again = answer(&image.parts(), &image.platform, &mut pages);
@@ -171,6 +177,16 @@ fn listed(shape: &Shape) -> Image {
     let digest = digest_in_parts(&image.bytes(), 0);
     let other = list(&[launch(0, &[[1; 32]]), element(3, &[9; 20])]);
     with_lists(&image, &[other, list(&[launch(2, &[[3; 32], digest])])])
+}
+
+/// The same with an STM image, in a list behind one for another STM image.
+fn with_stm(shape: &Shape) -> Image {
+    let image = Image { stm: (0..300).map(|i| (i * 3) as u8).collect(), ..image(shape) };
+    let digest = digest_in_parts(&image.bytes(), 0);
+    let stm_digest = digest_in_parts(&image.stm, 0);
+    let other = list(&[launch(0, &[digest]), stm(&[[1; 32]])]);
+    let by_others = element(0x14, &stm_body(0x0004, 1, &[2; 20]));
+    with_lists(&image, &[other, list(&[by_others, stm(&[[3; 32], stm_digest]), launch(2, &[digest])])])
 }
 
 #[test]
@@ -188,11 +204,40 @@ fn images() {
     damage_image("a heap of 1 MiB", of(Shape { heap_spare: MOST_HEAP - 124, ..plain.clone() }), 1000, 7, &mut counts);
     damage_image("a window of 32 MiB", of(Shape { spare: MOST_WINDOW - small, ..plain.clone() }), 1000, 8, &mut counts);
     damage_image("4096 pages", of(Shape { pages: 4096, ..plain.clone() }), 60, 9, &mut counts);
-    damage_image("4096 pages, LIST", listed(&Shape { pages: 4096, first: 100, ..plain }), 40, 10, &mut counts);
-    assert_eq!(counts.values().sum::<usize>(), 20_100);
+    damage_image("4096 pages, LIST", listed(&Shape { pages: 4096, first: 100, ..plain.clone() }), 40, 10, &mut counts);
+    damage_image("two pages, LIST with STM elements", with_stm(&plain), 6000, 12, &mut counts);
+    assert_eq!(counts.values().sum::<usize>(), 26_100);
     let met: Vec<u32> = counts.keys().copied().collect();
     let expected: Vec<u32> = (0..=29).filter(|number| *number != 13).collect();
     assert_eq!(met, expected, "every number but 13 is met: {counts:?}");
+}
+
+/// Damaged policy files under a record whose PolicyHash is right for them, so that it is decided over damaged elements which list permits.
+#[test]
+fn policy_files_with_their_hash() {
+    let image = image(&Shape::default());
+    let good = with_stm(&Shape::default());
+    let mut file = good.window[image.window.len()..].to_vec();
+    let mut dice = Dice(13);
+    let mut pages = vec![UNTOUCHED; MOST_PAGES];
+    let mut counts: BTreeMap<u32, usize> = BTreeMap::new();
+    for turn in 0..6000 {
+        let mut damage = Damage::new();
+        for _ in 0..=dice.below(2) {
+            let at = 36 + dice.below(file.len() - 36);
+            damage.hit(&mut dice, &mut file, at);
+        }
+        let lists: Vec<Vec<u8>> = policy::lists(&file).map(|(list, _)| file[list.bytes].to_vec()).collect();
+        let damaged = Image { stm: good.stm.clone(), ..with_file(&image, &file, &policy_hash(&lists)) };
+        let given = answer(&damaged.parts(), &damaged.platform, &mut pages);
+        let found = finding::first(&damaged.parts(), &damaged.platform, MOST_PAGES);
+        judge(&given, &pages, found, &format!("damage {turn}"));
+        pages[..given.pages as usize].fill(UNTOUCHED);
+        *counts.entry(given.number).or_default() += 1;
+        damage.repair(&mut file);
+    }
+    assert_eq!(counts.keys().copied().collect::<Vec<u32>>(), [0, 27, 29], "{counts:?}");
+    assert!(counts.values().all(|count| *count > 100), "{counts:?}");
 }
 
 /// A place in a capture: mostly in its head or where the parts have their fields.

@@ -5,7 +5,7 @@ mod common;
 mod tool;
 
 use bleiwurzel::finding::{self, AtHand, Finding, Lengths};
-use bleiwurzel::{capture, policy, refusals, sha256, MOST_PAGES};
+use bleiwurzel::{capture, policy, refusals, sha256, MOST_PAGES, MOST_STM};
 use common::*;
 use std::time::{Duration, Instant};
 use tool::*;
@@ -117,6 +117,97 @@ fn no_command_advises_itself() {
     }
     let ran = run(&["capture", "show", &stored("30-74-bytes.cap")]);
     assert!(!ran.out.contains("capture show") && ran.out.contains("Copy the file again"), "{}", ran.out);
+}
+
+/// An image of two pages under a LIST policy of lists that are made of its digest, with an STM image.
+fn with_stm(stm: &[u8], lists: impl Fn([u8; 32]) -> Vec<Vec<u8>>) -> Image {
+    let image = Image { stm: stm.to_vec(), ..image(&Shape::default()) };
+    let digest = sha256(&image.bytes());
+    with_lists(&image, &lists(digest))
+}
+
+/// The reason for each list that does not permit.
+fn reasons(stm: &[u8], lists: impl Fn([u8; 32]) -> Vec<Vec<u8>>) -> Vec<String> {
+    let image = with_stm(stm, lists);
+    finding::find(29, &image.parts(), &image.platform, MOST_PAGES).map_or(Vec::new(), |finding| finding.notes)
+}
+
+#[test]
+fn reasons_about_the_stm_image() {
+    let named = sha256(b"named");
+    let by_sha1 = || element(0x14, &stm_body(0x0004, 2, &[9; 40]));
+    let lists = |digest| {
+        vec![
+            list(&[launch(0, &[digest]), stm(&[named])]),
+            list(&[launch(0, &[[1; 32]]), stm(&[named])]),
+            list(&[by_sha1(), launch(0, &[digest]), stm(&[[2; 32]])]),
+            list(&[stm(&[named]), element(0x11, b"")]),
+        ]
+    };
+    let no_image = "is an STM element (type 0x14), and no STM image was given";
+    let unjudged = "has type 0x11 and only types 0x10, 3 and 0x14 are judged (and it does not name the digest)";
+    let expected = [
+        format!("list 0: element 1 (file offset 0x5e) {no_image}"),
+        format!("list 1: element 1 (file offset 0xc8) {no_image} (and it does not name the digest)"),
+        format!("list 2: element 0 (file offset 0x100) {no_image}"),
+        format!("list 3: element 1 (file offset 0x1d2) {unjudged}"),
+    ];
+    assert_eq!(reasons(b"", lists), expected);
+    let other: String = sha256(b"other").iter().map(|byte| format!("{byte:02x}")).collect();
+    let not_named = format!(
+        "it names the digest, but its STM elements (type 0x14) do not name the STM image, whose digest is {other}; they name"
+    );
+    let expected = [
+        format!("list 0: {not_named} 1 other by SHA-256 and 0 by other algorithms"),
+        "list 1: it does not name the digest; it names 1 other by SHA-256 and 0 by other algorithms".to_string(),
+        format!("list 2: {not_named} 1 other by SHA-256 and 2 by other algorithms"),
+        format!("list 3: element 1 (file offset 0x1d2) {unjudged}"),
+    ];
+    assert_eq!(reasons(b"other", lists), expected);
+    assert_eq!(reasons(b"named", lists), [] as [String; 0], "list 0 permits");
+}
+
+/// The times of the STM image's digest, of the check and of the finding, which take turns: the best of three each.
+fn times(image: &Image) -> [Duration; 3] {
+    let parts = image.parts();
+    let mut pages = vec![0; MOST_PAGES];
+    let mut best = [Duration::MAX; 3];
+    for _ in 0..3 {
+        let began = Instant::now();
+        sha256(parts.stm);
+        best[0] = best[0].min(began.elapsed());
+        let began = Instant::now();
+        bleiwurzel::answer(&parts, &image.platform, &mut pages);
+        best[1] = best[1].min(began.elapsed());
+        let began = Instant::now();
+        finding::first(&parts, &image.platform, MOST_PAGES);
+        best[2] = best[2].min(began.elapsed());
+    }
+    best
+}
+
+/// A long STM image takes no time where no list that could permit holds an STM element: neither in the check nor in the finding. Where such
+/// lists do, it is hashed once.
+#[test]
+fn the_stm_image_is_hashed_where_it_must_be() {
+    let image_of_stm = vec![5; MOST_STM];
+    type Lists = fn([u8; 32]) -> Vec<Vec<u8>>;
+    let unneeded: [(&str, Lists); 5] = [
+        ("no STM element", |digest| vec![list(&[launch(0, &[digest])])]),
+        ("a signed list", |digest| vec![signed(&[launch(0, &[digest]), stm(&[[1; 32]])], 256)]),
+        ("an element of type 0x13", |digest| vec![list(&[launch(0, &[digest]), stm(&[[1; 32]]), element(0x13, b"")])]),
+        ("another MLE", |_| vec![list(&[launch(0, &[[1; 32]]), stm(&[[1; 32]])])]),
+        ("a newer module", |digest| vec![list(&[launch(255, &[digest]), stm(&[[1; 32]])])]),
+    ];
+    let any = Image { stm: image_of_stm.clone(), ..image(&Shape::default()) };
+    let images = unneeded.iter().map(|(name, lists)| (*name, with_stm(&image_of_stm, lists))).chain([("ANY", any)]);
+    for (name, image) in images {
+        let [once, check, finding] = times(&image);
+        assert!(check < once / 4 && finding < once / 4, "{name}: check {check:?}, finding {finding:?}, the digest {once:?}");
+    }
+    let eight = with_stm(&image_of_stm, |digest| vec![list(&[launch(0, &[digest]), stm(&[[1; 32]])]); 8]);
+    let [once, check, finding] = times(&eight);
+    assert!(check < once * 3 && finding < once * 3, "eight lists: check {check:?}, finding {finding:?}, the digest {once:?}");
 }
 
 /// The largest image, and the same under a LIST policy that does not name it.

@@ -25,6 +25,12 @@ fn nothing(_: u64) -> Vec<String> {
     Vec::new()
 }
 
+/// What the header says of a kind of element, with the type as one digit or hexadecimal.
+fn of_type(kind: &str, number: u64) -> Vec<String> {
+    let number = if number < 10 { number.to_string() } else { format!("{number:#x}") };
+    vec![format!("BLEIWURZEL_ELEMENT_{kind} /* type {number} */")]
+}
+
 const NUMBERS: &[Number] = &[
     Number {
         value: PAGE_SIZE,
@@ -49,6 +55,12 @@ const NUMBERS: &[Number] = &[
         rattle: &["MOST_HEAP", "mostHeap"],
         macros: &["BLEIWURZEL_MOST_HEAP"],
         said: |n| vec![format!("the heap is over {} MiB", n >> 20)],
+    },
+    Number {
+        value: MOST_STM as u64,
+        rattle: &["MOST_STM", "mostStm"],
+        macros: &["BLEIWURZEL_MOST_STM"],
+        said: |n| vec![format!("the STM image is over {} MiB", n >> 20)],
     },
     Number { value: MOST_MODULE, rattle: &["HIGHEST_MODULE_END", "highestModuleEnd"], macros: &[], said: nothing },
     Number { value: MOST_CHIPSETS, rattle: &["sinit::MOST_ENTRIES", "sinit::mostEntries"], macros: &[], said: nothing },
@@ -86,6 +98,19 @@ const NUMBERS: &[Number] = &[
         said: nothing,
     },
     Number { value: policy::MOST_LISTS, rattle: &["MOST_LISTS", "mostLists"], macros: &[], said: nothing },
+    Number {
+        value: policy::LAUNCH as u64,
+        rattle: &["LAUNCH_TYPE", "launchType"],
+        macros: &[],
+        said: |n| of_type("LAUNCH = 1,", n),
+    },
+    Number {
+        value: policy::CUSTOM as u64,
+        rattle: &["CUSTOM_TYPE", "customType"],
+        macros: &[],
+        said: |n| of_type("CUSTOM = 2,", n),
+    },
+    Number { value: policy::STM as u64, rattle: &["STM_TYPE", "stmType"], macros: &[], said: |n| of_type("STM = 4", n) },
     Number {
         value: NO_LIST as u64,
         rattle: &["NO_LIST", "noList"],

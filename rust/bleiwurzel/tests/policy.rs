@@ -2,7 +2,7 @@
 
 mod common;
 
-use bleiwurzel::policy::{self, Element, List};
+use bleiwurzel::policy::{self, Body, Element, List};
 use bleiwurzel::{finding, Refusal};
 use common::top;
 
@@ -29,15 +29,19 @@ fn list_line(i: usize, list: &List) -> String {
 
 fn element_lines(file: &[u8], i: usize, j: usize, element: &Element) -> String {
     let (start, size, kind, control) = (element.bytes.start, element.bytes.len(), element.kind, element.control);
-    let name = match (&element.launch, kind) {
-        (Some(_), _) => "launch",
-        (None, policy::CUSTOM) => "custom",
-        (None, _) => "unjudged",
+    let name = match (&element.body, kind) {
+        (Body::Launch(_), policy::LAUNCH) => "launch",
+        (Body::Stm(_), policy::STM) => "stm",
+        (Body::Other, policy::CUSTOM) => "custom",
+        (Body::Other, _) => "unjudged",
+        other => panic!("{other:?}"),
     };
     let mut lines = format!("element {i} {j} {name} start={start} size={size} type=0x{kind:08x} control=0x{control:08x}");
-    if let Some(launch) = &element.launch {
-        let (least, reserved, algorithm, count) = (launch.sinit_min_version, launch.reserved, launch.hash_alg, launch.digests);
-        lines.push_str(&format!(" sinitminversion={least} reserved={reserved} hashalg=0x{algorithm:04x} count={count}"));
+    if let Body::Launch(launch) = &element.body {
+        lines.push_str(&format!(" sinitminversion={} reserved={}", launch.sinit_min_version, launch.reserved));
+    }
+    if let Some(digests) = element.digests() {
+        lines.push_str(&format!(" hashalg=0x{:04x} count={}", digests.hash_alg, digests.count));
     }
     lines.push('\n');
     let digests = (0..).map_while(|k| policy::digest(element, k));
@@ -137,6 +141,27 @@ fn at_an_offset() {
     assert_eq!(policy::list_at(&file, policy::FIRST_LIST + 1), None);
     assert_eq!(policy::elements(&file, &list).len(), 1);
     assert_eq!(policy::elements(&file[..list.elements.end - 1], &list), [], "the list of a longer file");
+}
+
+/// Where the digests of a launch and of an STM element stand, and that there is none behind the last.
+#[test]
+fn where_digests_stand() {
+    let elements = [common::launch(0, &[[1; 32], [2; 32]]), common::stm(&[[3; 32], [4; 32]]), common::element(3, &[5; 64])];
+    let (file, _) = common::policy_file(&[common::list(&elements)]);
+    let places: Vec<_> = (0..3).map(|j| policy::element(&file, 0, j).expect("an element")).collect();
+    let (launch, stm) = (places[0].bytes.start + 18, places[1].bytes.start + 16);
+    for (element, k, expected) in [
+        (0, 0, Some(launch..launch + 32)),
+        (0, 1, Some(launch + 32..launch + 64)),
+        (0, 2, None),
+        (1, 0, Some(stm..stm + 32)),
+        (1, 1, Some(stm + 32..stm + 64)),
+        (1, 2, None),
+        (1, usize::MAX, None),
+        (2, 0, None),
+    ] {
+        assert_eq!(policy::digest(&places[element], k), expected, "digest {k} of element {element}");
+    }
 }
 
 #[test]

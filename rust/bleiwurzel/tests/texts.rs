@@ -61,7 +61,7 @@ fn commands(page: &str, begin: &str) -> Vec<String> {
 fn commands_of_tboot_are_whole() {
     let page = markdown();
     let needed = [
-        ("lcp2_crtpolelt", &["--create", "--type mle2 ", "--alg sha256", "--out "][..]),
+        ("lcp2_crtpolelt", &["--create", "--type ", "--alg sha256", "--out "][..]),
         ("lcp2_crtpollist", &["--create", "--listver 0x20", "--out "]),
         ("lcp2_crtpol ", &["--create", "--type ", "--alg sha256", "--mask sha256", "--sign ", "--pol "]),
     ];
@@ -73,6 +73,10 @@ fn commands_of_tboot_are_whole() {
         }
     }
     assert!(commands(&page, "lcp2_").iter().all(|command| command.contains(" --create ")), "a tool without what it is to do");
+    let elements = commands(&page, "lcp2_crtpolelt");
+    for kind in ["--type mle2 ", "--type stm "] {
+        assert!(elements.iter().any(|command| command.contains(kind)), "no command line for an element with {kind}");
+    }
 }
 
 /// A command line of this tool names a command and flags that there are.

@@ -6,7 +6,7 @@ mod json;
 #[path = "common/tool.rs"]
 mod tool;
 
-use bleiwurzel::{answer_capture, finding, MOST_HEAP, MOST_PAGES, MOST_WINDOW};
+use bleiwurzel::{answer_capture, finding, sha256, MOST_HEAP, MOST_PAGES, MOST_STM, MOST_WINDOW};
 use common::*;
 use json::is_json;
 use tool::*;
@@ -104,12 +104,13 @@ fn the_platform_by_flags_alone() {
 #[test]
 fn files_over_their_limits() {
     let folder = folder("files_over_their_limits");
-    let words = written(&folder, &image(&Shape::default()));
+    let image = Image { stm: vec![1], ..image(&Shape::default()) };
+    let words = written(&folder, &image);
     let restore = |name: &str, bytes: &[u8]| std::fs::write(folder.join(name), bytes).expect("a part is written");
-    let image = image(&Shape::default());
-    let cases: [(&str, &[u8], usize, u32); 4] = [
+    let cases: [(&str, &[u8], usize, u32); 5] = [
         ("window.bin", &image.window, MOST_WINDOW, 1),
         ("heap.bin", &image.heap, MOST_HEAP, 1),
+        ("stm.bin", &image.stm, MOST_STM, 1),
         ("sinit.bin", &image.sinit, 0x2_0000, 6),
         ("record.bin", &image.record, 70, 23),
     ];
@@ -124,9 +125,98 @@ fn files_over_their_limits() {
         restore(name, bytes);
     }
     lengthen(&folder.join("window.bin"), MOST_WINDOW as u64);
+    lengthen(&folder.join("stm.bin"), MOST_STM as u64);
     assert_eq!(run_with(&["check"], &words, &[]).status, OK);
     let ran = run_with(&["check"], &words[2..], &["--window", "/dev/zero"]);
     assert!(ran.out.starts_with("refused 1, limits\n"), "a file without end: {}", ran.out);
+}
+
+/// A permitted image under a LIST policy with an STM element.
+fn with_stm() -> Image {
+    let image = Image { stm: b"an STM image".to_vec(), ..image(&Shape::default()) };
+    let elements = [launch(0, &[sha256(&image.bytes())]), stm(&[sha256(&image.stm)])];
+    with_lists(&image, &[list(&elements)])
+}
+
+#[test]
+fn an_stm_image() {
+    let folder = folder("an_stm_image");
+    let image = with_stm();
+    let words = written(&folder, &image);
+    assert_eq!(words[10], "--stm");
+    let permitted = run_with(&["check"], &words, &[]);
+    assert_eq!((permitted.status, permitted.err.as_str()), (OK, ""), "{}", permitted.out);
+    assert!(permitted.out.contains("\n  list    0, the lowest that permits"), "{}", permitted.out);
+    let without = &words[..10];
+    let reason = "element 1 (file offset 0x5e) is an STM element (type 0x14), and no STM image was given";
+    for more in [&[][..], &["--stm", "/dev/null"]] {
+        let ran = run_with(&["check"], without, more);
+        assert_eq!(ran.status, REFUSED, "{more:?}: {}", ran.out);
+        let said = ran.out.split_whitespace().collect::<Vec<_>>().join(" ");
+        assert!(said.starts_with("refused 29, no list") && said.contains(reason), "{more:?}: {said}");
+        let json = run_with(&["check"], without, &[more, &["--json"]].concat());
+        assert!(is_json(&json.out) && json.out.contains(&format!("\"notes\": [\"list 0: {reason}\"]")), "{}", json.out);
+    }
+    let other = run_with(&["check"], without, &["--stm", &words[1], "--json"]);
+    assert!(other.status == REFUSED && other.out.contains(&hex(&sha256(&image.window))), "{}", other.out);
+    let ran = run_with(&["check"], without, &["--stm", "/nowhere/stm.bin"]);
+    assert!(ran.status == MISUSE && ran.err.contains("there is no file '/nowhere/stm.bin' for the STM image"), "{}", ran.err);
+}
+
+fn hex(bytes: &[u8]) -> String {
+    bytes.iter().map(|byte| format!("{byte:02x}")).collect()
+}
+
+/// A capture has no place for an STM image, not for an empty file either: who names one expects that it counts.
+#[test]
+fn no_capture_with_an_stm_image() {
+    let folder = folder("no_capture_with_an_stm_image");
+    let words = written(&folder, &with_stm());
+    let output = folder.join("made.cap").to_string_lossy().into_owned();
+    for (words, more) in [(&words[..], &[][..]), (&words[..10], &["--stm", "/dev/null"])] {
+        let ran = run_with(&["capture", "make"], words, &[&["--output", &output], more].concat());
+        assert_eq!(ran.status, MISUSE);
+        assert!(ran.err.contains("no place for an STM image") && ran.err.contains("bleiwurzel check --stm FILE"), "{}", ran.err);
+    }
+    assert!(!folder.join("made.cap").exists());
+    assert_eq!(run_with(&["capture", "make"], &words[..10], &["--output", &output]).status, OK);
+    let ran = run(&["check", "--capture", &output]);
+    assert!(ran.status == REFUSED && ran.out.contains("no STM image was given"), "{}", ran.out);
+    let ran = run(&["check", "--capture", &output, "--stm", &words[11]]);
+    assert!(ran.status == MISUSE && ran.err.contains("leave out --stm"), "{}", ran.err);
+}
+
+/// What `policy` says of lists with STM elements: the digests, and whether a list can permit.
+#[test]
+fn stm_elements_in_policy_files() {
+    let path = folder("stm_elements").join("policy.data").to_string_lossy().into_owned();
+    let mle = || launch(0, &[[1; 32]]);
+    let by_sha384 = element(0x14, &stm_body(0x000c, 1, &[3; 48]));
+    let lists = [list(&[mle(), stm(&[[2; 32], [4; 32]])]), list(&[mle(), by_sha384]), list(&[mle()])];
+    std::fs::write(&path, policy_file(&lists).0).expect("a policy file");
+    let ran = run(&["policy", &path]);
+    let element = format!(
+        "    policy_element[1]: offset 0x5e\n        size: 0x50 (80)\n        type: 'stm' (0x14)\n        policy_elt_control: 0x00000000\n        \
+         hash_alg: TPM_ALG_SHA256 (0xb)\n        num_hashes: 2\n        hashes[0]: {}\n        hashes[1]: {}\n",
+        hex(&[2; 32]),
+        hex(&[4; 32])
+    );
+    assert!(ran.status == OK && ran.out.contains(&element), "{}", ran.out);
+    assert!(ran.out.contains("hash_alg: TPM_ALG_SHA384 (0xc)\n        num_hashes: 1\n"), "{}", ran.out);
+    let can: Vec<&str> = ran.out.lines().filter_map(|line| line.strip_prefix("    can permit: ")).collect();
+    let no = "no, it holds type 0x14, and no element of that type names a SHA-256 digest";
+    assert_eq!(can, ["yes, with an STM image that it names", no, "yes"]);
+    let json = run(&["policy", &path, "--json"]).out;
+    assert!(is_json(&json), "{json}");
+    let element = format!(
+        "\"type\": \"0x14\", \"control\": \"0x0\", \"hash_alg\": \"0xb\", \"hashes\": [\"{}\", \"{}\"]}}",
+        hex(&[2; 32]),
+        hex(&[4; 32])
+    );
+    assert!(json.contains(&element), "{json}");
+    for (can, needs) in [("true", "true"), ("false", "true"), ("true", "false")] {
+        assert!(json.contains(&format!("\"can_permit\": {can}, \"needs_stm\": {needs}")), "{can}, {needs}: {json}");
+    }
 }
 
 #[test]
@@ -199,8 +289,12 @@ fn policy_files() {
 #[test]
 fn names_of_types() {
     let kinds = [(0x10, "mle2"), (0x11, "pconf2"), (0x12, "sbios"), (0x13, "custom"), (0x14, "stm")];
-    let elements: Vec<Vec<u8>> =
-        kinds.iter().map(|(kind, _)| if *kind == 0x10 { launch(0, &[[1; 32]]) } else { element(*kind, b"x") }).collect();
+    let of = |(kind, _): &(u32, &str)| match kind {
+        0x10 => launch(0, &[[1; 32]]),
+        0x14 => stm(&[[1; 32]]),
+        kind => element(*kind, b"x"),
+    };
+    let elements: Vec<Vec<u8>> = kinds.iter().map(of).collect();
     let path = folder("names_of_types").join("types").to_string_lossy().into_owned();
     std::fs::write(&path, policy_file(&[list(&elements), list(&elements[3..4])]).0).expect("a policy file");
     let ran = run(&["policy", &path]);
@@ -244,7 +338,7 @@ fn help_on_every_level() {
 #[test]
 fn misuse_says_what_to_do() {
     let example = stored("00-any-example.cap");
-    let cases: [(&[&str], &str); 16] = [
+    let cases: [(&[&str], &str); 18] = [
         (&[], "a command is missing"),
         (&["chekc"], "there is no command 'chekc'"),
         (&["check"], "numbers of the platform are missing"),
@@ -253,6 +347,7 @@ fn misuse_says_what_to_do() {
         (&["check", "--capture", "/nowhere/x.cap"], "there is no file '/nowhere/x.cap'"),
         (&["check", "--capture", "/"], "cannot read '/'"),
         (&["check", "--capture", &example, "--heap", "h"], "leave out --heap"),
+        (&["check", "--capture", &example, "--stm", "s"], "a capture is checked without an STM image"),
         (&["check", "--capture", &example, "--capture", &example], "given twice"),
         (&["check", "--windw", "x"], "has no flag --windw"),
         (&["check", "--vendor", "0x18086"], "--vendor: '0x18086' does not fit into 16 bits"),
@@ -261,6 +356,7 @@ fn misuse_says_what_to_do() {
         (&["policy", "a", "b"], "there are 2 files"),
         (&["capture", "mak"], "make or show"),
         (&["capture", "make"], "--output is missing"),
+        (&["capture", "make", "--stm", "s"], "a capture has no place for an STM image"),
     ];
     for (words, message) in cases {
         let ran = run(words);

@@ -64,6 +64,9 @@ part-check-end-4 c =
     let k = c .before .before .before in
     omega (arith, whole _ _ (k .before .before .holds .ensures) (k .before .if1 .left) _ (k .offsets-in .ensures .0))
 
+slice-aggregate-check : tie.Need-slice-aggregate-check
+slice-aggregate-check c = search needs
+
 platform-requires : tie.Need-platform-requires
 platform-requires c κs = search needs
 
@@ -76,7 +79,7 @@ same-length c = search needs
 returns-2 : tie.Need-returns-2
 returns-2 c =
     let called = c .before .before in
-    let at = called .before .before .before .before .before .before .before in
+    let at = called .before .before .before .before .before .before .before .before in
     a-capture _ _ (at .before .before .holds .ensures) (at .before .if1 .left) _ _ (at .offsets-in .ensures .0) (called .before .before .platform .ensures) _ _ _
     (called .check .ensures .0) (called .check .ensures .1)
 
@@ -100,6 +103,7 @@ check-spec =
     sub-check-4
     part-check-start-4
     part-check-end-4
+    slice-aggregate-check
     platform-requires
     check-requires
     same-length

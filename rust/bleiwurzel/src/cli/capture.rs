@@ -3,6 +3,7 @@
 use super::args::{self, Args, OUTPUT};
 use super::json::{hex, Json};
 use super::{check, files, help, misuse, names, platform, report, save, say, Misuse, Said, YES};
+use bleiwurzel::capture::Unfit;
 use bleiwurzel::{capture, finding, text, Parts, Platform, Refusal};
 use std::ffi::{OsStr, OsString};
 
@@ -29,17 +30,13 @@ fn make(words: Vec<OsString>) -> Result<Said, Misuse> {
         return Ok(Said { text: help::CAPTURE_MAKE.to_string(), status: YES });
     }
     args.no_words("--window")?;
+    if args.value(check::STM).is_some() {
+        return misuse(MAKE, unfit(Unfit::Stm, false));
+    }
     let output = output(&args)?;
     let platform = platform::read(&args, MAKE)?;
     let loaded = check::load(&args, MAKE, [capture::MOST as u64; 4], files::read)?;
-    let bytes = match capture::make(&loaded.parts(), &platform) {
-        Ok(bytes) => bytes,
-        Err(size) => {
-            let (most, more) = (capture::MOST, if loaded.more() { " or more" } else { "" });
-            let why = format!("a capture has at most {most} bytes, and these parts would make {size}{more}");
-            return misuse(MAKE, format!("{why}. Check the parts themselves: bleiwurzel check --window FILE .."));
-        }
-    };
+    let bytes = capture::make(&loaded.parts(), &platform).or_else(|why| misuse(MAKE, unfit(why, loaded.more())))?;
     save::write(output, &bytes, MAKE)?;
     // Said here: where it cannot be, the file is there all the same.
     say(&wrote(output, bytes.len(), args.has("--json"))).or_else(|error| {
@@ -47,6 +44,15 @@ fn make(words: Vec<OsString>) -> Result<Said, Misuse> {
         misuse(MAKE, format!("'{name}' was written, but that cannot be said on standard output: {error}"))
     })?;
     Ok(Said { text: String::new(), status: YES })
+}
+
+/// What is said where parts make no capture; `more` says that a part was not read to its end.
+fn unfit(why: Unfit, more: bool) -> String {
+    let (more, flag) = match why {
+        Unfit::Long(_) => (if more { " or more" } else { "" }, "--window"),
+        Unfit::Stm => ("", check::STM),
+    };
+    format!("{why}{more}. Check the parts themselves: bleiwurzel check {flag} FILE ..")
 }
 
 /// The file that is to be written.

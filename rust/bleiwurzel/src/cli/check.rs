@@ -4,43 +4,58 @@ use super::args::{self, Args};
 use super::files::Contents;
 use super::{files, help, misuse, module, platform, report, Misuse, Said, MISUSE};
 use bleiwurzel::finding::{self, AtHand, Lengths};
-use bleiwurzel::{capture, Parts, Platform, MOST_HEAP, MOST_PAGES, MOST_WINDOW, RECORD_LENGTH};
+use bleiwurzel::{capture, Parts, Platform, MOST_HEAP, MOST_PAGES, MOST_STM, MOST_WINDOW, RECORD_LENGTH};
 use std::ffi::OsString;
 
 const HELP: &str = "bleiwurzel check";
 
 pub const PARTS: [&str; 4] = ["--window", "--heap", "--sinit", "--policy-record"];
+/// The flag of the part that there may be or not.
+pub const STM: &str = "--stm";
 
 /// The flags of the parts and of the platform, and these.
 pub fn flags(more: &[&'static str]) -> Vec<&'static str> {
     let platform = platform::KEYS.iter().map(|(_, flag, _)| *flag);
-    PARTS.iter().copied().chain(["--platform"]).chain(platform).chain(more.iter().copied()).collect()
+    PARTS.iter().copied().chain([STM, "--platform"]).chain(platform).chain(more.iter().copied()).collect()
 }
 
-/// The four parts as files.
+/// The parts as files.
 pub struct Loaded {
     window: Contents,
     heap: Contents,
     sinit: Contents,
     record: Contents,
+    stm: Contents,
 }
 
 impl Loaded {
     pub fn parts(&self) -> Parts<'_> {
-        Parts { window: &self.window.bytes, heap: &self.heap.bytes, sinit: &self.sinit.bytes, record: &self.record.bytes }
+        Parts {
+            window: &self.window.bytes,
+            heap: &self.heap.bytes,
+            sinit: &self.sinit.bytes,
+            record: &self.record.bytes,
+            stm: &self.stm.bytes,
+        }
     }
 
     /// Whether a part goes on behind what was read of it.
     pub fn more(&self) -> bool {
-        [&self.window, &self.heap, &self.sinit, &self.record].iter().any(|part| part.length.more)
+        [&self.window, &self.heap, &self.sinit, &self.record, &self.stm].iter().any(|part| part.length.more)
     }
 
     fn lengths(&self) -> Lengths {
-        Lengths { window: self.window.length, heap: self.heap.length, sinit: self.sinit.length, record: self.record.length }
+        Lengths {
+            window: self.window.length,
+            heap: self.heap.length,
+            sinit: self.sinit.length,
+            record: self.record.length,
+            stm: self.stm.length,
+        }
     }
 }
 
-/// Reads the parts, each at most up to its limit and one byte more; `sinit` reads the SINIT module.
+/// Reads the parts, each at most up to its limit and one byte more; `sinit` reads the SINIT module. An STM image that is not given is empty.
 pub fn load(args: &Args, help: &'static str, limits: [u64; 4], sinit: files::Reader) -> Result<Loaded, Misuse> {
     let missing = args.missing(&PARTS);
     if !missing.is_empty() {
@@ -52,6 +67,10 @@ pub fn load(args: &Args, help: &'static str, limits: [u64; 4], sinit: files::Rea
         heap: files::read(path(1), limits[1], "the TXT heap", help)?,
         sinit: sinit(path(2), limits[2], "the SINIT module", help)?,
         record: files::read(path(3), limits[3], "the policy record", help)?,
+        stm: match args.value(STM) {
+            Some(path) => files::read(path, MOST_STM as u64, "the STM image", help)?,
+            None => Contents::default(),
+        },
     })
 }
 
@@ -91,6 +110,10 @@ fn of_parts(loaded: &Loaded, platform: &Platform, json: bool) -> Said {
 
 fn of_capture(args: &Args) -> Result<Said, Misuse> {
     let path = args.value("--capture").unwrap_or_default();
+    if args.value(STM).is_some() {
+        let why = "a capture is checked without an STM image";
+        return misuse(HELP, format!("{why}; leave out {STM}, or leave out --capture and give the parts themselves"));
+    }
     if let Some(other) = flags(&[]).iter().find(|flag| args.value(flag).is_some()) {
         return misuse(HELP, format!("--capture has all parts and the platform in one file; leave out {other}"));
     }

@@ -10,7 +10,8 @@ use std::io::{ErrorKind, Read};
 /// The name that stands for standard input, or for standard output where something is written.
 pub const STANDARD: &str = "-";
 
-/// What was read of a file.
+/// What was read of a file; by default of no file at all.
+#[derive(Default)]
 pub struct Contents {
     pub bytes: Vec<u8>,
     pub length: Length,

@@ -30,7 +30,7 @@ bleiwurzel check: will the next launch succeed?
 
 Usage:
   bleiwurzel check --window FILE --heap FILE --sinit FILE --policy-record FILE
-                   --platform FILE [--json]
+                   [--stm FILE] --platform FILE [--json]
   bleiwurzel check --capture FILE [--json]
 
 The parts:
@@ -40,8 +40,12 @@ The parts:
   --heap FILE            the TXT heap from its first byte on, at most 1 MiB
   --sinit FILE           the SINIT module
   --policy-record FILE   the policy record of the TPM, 70 bytes
-  --capture FILE         all parts and the platform in one file of at most
-                         65536 bytes
+  --stm FILE             the STM image, at most 16 MiB: exactly the bytes that
+                         SINIT measures, which are the STM's static image.
+                         Without an STM leave it out; then a list that holds
+                         STM elements (type 0x14) does not permit
+  --capture FILE         all parts but an STM image, and the platform, in one
+                         file of at most 65536 bytes
 
 The platform, by a file or by flags; a flag counts more than the file. Numbers
 are decimal, or hexadecimal with 0x:
@@ -86,6 +90,8 @@ Examples:
   An image of any size by its parts:
     bleiwurzel check --window window.bin --heap heap.bin --sinit sinit.bin \\
         --policy-record record.bin --platform host17.txt
+  The same on a host with an STM:
+    bleiwurzel check .. --platform host17.txt --stm stm.bin
   The same, if there were no DPR:
     bleiwurzel check .. --platform host17.txt --dpr-size 0
 ";
@@ -98,10 +104,10 @@ Usage:
   bleiwurzel policy FILE [--json]
 
 It shows every list with its elements, digests, key and signature, each with its
-offset in the file, and whether the list can permit an image at all. A file of
-fewer than 36 or more than 65536 bytes is refused with 26, one that is not of
-the grammar with 27, and then the field that is wrong is shown. Exit status 0
-or 1.
+offset in the file, and whether the list can permit an image at all; one that
+holds STM elements can only with an STM image that it names. A file of fewer
+than 36 or more than 65536 bytes is refused with 26, one that is not of the
+grammar with 27, and then the field that is wrong is shown. Exit status 0 or 1.
 
 What keeps a list from permitting, and what tboot's tools have to do with it:
 bleiwurzel refusals 29
@@ -122,8 +128,8 @@ Usage:
   bleiwurzel capture show FILE    the platform and the parts of a capture file
 
 Both have --help. A capture is checked by: bleiwurzel check --capture FILE
-Images over 64 KiB do not fit; check their parts instead, see
-bleiwurzel check --help
+Images over 64 KiB do not fit, nor does an STM image; check the parts instead,
+see bleiwurzel check --help
 ";
 
 pub const CAPTURE_MAKE: &str = "\
@@ -134,11 +140,12 @@ Usage:
                           --policy-record FILE --platform FILE --output FILE
                           [--json]
 
-Parts and platform are given as for bleiwurzel check; see its --help. Nothing is
-judged here: a capture may be of an image that is refused. A file that is there
-already is not overwritten, and the capture has its name only when it is whole.
-With --output - it goes to standard output, where --json cannot write too.
-75 bytes and the parts must be at most 65536.
+Parts and platform are given as for bleiwurzel check; see its --help. A capture
+has no place for an STM image: --stm is refused. Nothing is judged here: a
+capture may be of an image that is refused. A file that is there already is not
+overwritten, and the capture has its name only when it is whole. With --output -
+it goes to standard output, where --json cannot write too. 75 bytes and the
+parts must be at most 65536.
 
 Example:
   bleiwurzel capture make --window window.bin --heap heap.bin \\

@@ -2,7 +2,7 @@
 
 use super::json::{hex, Json};
 use super::{args, files, help, report, Misuse, Said, YES};
-use bleiwurzel::policy::{self, Element, Launch, List};
+use bleiwurzel::policy::{self, Body, Digests, Element, List};
 use bleiwurzel::text::{bytes, digits};
 use bleiwurzel::{finding, RECORD_LENGTH};
 use std::ffi::OsString;
@@ -62,11 +62,20 @@ fn hindrance(list: &List, elements: &[Element]) -> Option<String> {
     if let Some(hindrance) = policy::hindrance(list.signed.is_some(), kinds) {
         return Some(hindrance);
     }
-    let sha256 = |launch: &Launch| launch.hash_alg == policy::SHA256 && launch.digests > 0;
-    if !elements.iter().filter_map(|element| element.launch.as_ref()).any(sha256) {
+    let sha256 = |digests: &Digests| digests.hash_alg == policy::SHA256 && digests.count > 0;
+    let named = |kind: u32| elements.iter().filter(|element| element.kind == kind).filter_map(Element::digests).any(sha256);
+    if !named(policy::LAUNCH) {
         return Some("no element of type 0x10 names a SHA-256 digest".to_string());
     }
+    if needs_stm(elements) && !named(policy::STM) {
+        return Some("it holds type 0x14, and no element of that type names a SHA-256 digest".to_string());
+    }
     None
+}
+
+/// Whether a list with these elements permits only with an STM image that it names.
+fn needs_stm(elements: &[Element]) -> bool {
+    elements.iter().any(|element| element.kind == policy::STM)
 }
 
 /// The name of an element's type: tboot's, and Intel's for 2 and 3, which tboot's tools do not know.
@@ -78,7 +87,7 @@ fn kind(kind: u32) -> &'static str {
         policy::CUSTOM | policy::TBOOT_CUSTOM => "custom",
         policy::LAUNCH => "mle2",
         0x11 => "pconf2",
-        0x14 => "stm",
+        policy::STM => "stm",
         _ => "unknown",
     }
 }
@@ -104,6 +113,7 @@ fn list_text(file: &[u8], i: usize, list: &List, elements: &[Element]) -> String
         }
     }
     match hindrance(list, elements) {
+        None if needs_stm(elements) => text.push_str("    can permit: yes, with an STM image that it names\n"),
         None => text.push_str("    can permit: yes\n"),
         Some(why) => text.push_str(&format!("    can permit: no, {why}\n")),
     }
@@ -115,28 +125,36 @@ fn element_text(file: &[u8], j: usize, element: &Element) -> String {
     let mut text = format!("    policy_element[{j}]: offset {:#x}\n", element.bytes.start);
     text.push_str(&format!("        size: {size:#x} ({size})\n        type: '{}' ({:#x})\n", kind(element.kind), element.kind));
     text.push_str(&format!("        policy_elt_control: {:#010x}\n", element.control));
-    let launch = match &element.launch {
-        Some(launch) => launch,
+    if let Body::Launch(launch) = &element.body {
+        text.push_str(&format!(
+            "        sinit_min_version: {:#x}\n        reserved: {:#x}\n",
+            launch.sinit_min_version, launch.reserved
+        ));
+    }
+    match element.digests() {
+        Some(named) => text.push_str(&digests_text(file, element, named)),
         None => {
-            let body = &file[element.bytes.start + 12..element.bytes.end];
+            let body = body(file, element);
             text.push_str(&format!("        data: {}\n", bytes(body.len() as u64)));
             body.chunks(32).for_each(|line| text.push_str(&format!("            {}\n", digits(line))));
-            return text;
         }
-    };
-    let name = policy::algorithm(launch.hash_alg).map_or("unknown", |(_, name)| name);
-    text.push_str(&format!(
-        "        sinit_min_version: {:#x}\n        reserved: {:#x}\n",
-        launch.sinit_min_version, launch.reserved
-    ));
-    text.push_str(&format!(
-        "        hash_alg: TPM_ALG_{name} ({:#x})\n        num_hashes: {}\n",
-        launch.hash_alg, launch.digests
-    ));
+    }
+    text
+}
+
+/// The digests of an element.
+fn digests_text(file: &[u8], element: &Element, named: &Digests) -> String {
+    let name = policy::algorithm(named.hash_alg).map_or("unknown", |(_, name)| name);
+    let mut text = format!("        hash_alg: TPM_ALG_{name} ({:#x})\n        num_hashes: {}\n", named.hash_alg, named.count);
     for (k, digest) in digests(file, element).enumerate() {
         text.push_str(&format!("        hashes[{k}]: {digest}\n"));
     }
     text
+}
+
+/// What follows an element's size, type and control.
+fn body<'a>(file: &'a [u8], element: &Element) -> &'a [u8] {
+    &file[element.bytes.start + 12..element.bytes.end]
 }
 
 fn digests<'a>(file: &'a [u8], element: &'a Element) -> impl Iterator<Item = String> + 'a {
@@ -163,6 +181,7 @@ fn list_json(file: &[u8], list: &List, elements: &[Element]) -> Json {
         ("elements", Json::List(elements.iter().map(|element| element_json(file, element)).collect())),
         ("signed", signed),
         ("can_permit", Json::Bool(hindrance.is_none())),
+        ("needs_stm", Json::Bool(needs_stm(elements))),
         ("hindrance", hindrance.map_or(Json::Null, Json::from)),
     ])
 }
@@ -174,12 +193,16 @@ fn element_json(file: &[u8], element: &Element) -> Json {
         ("type", hex(u64::from(element.kind))),
         ("control", hex(u64::from(element.control))),
     ];
-    match &element.launch {
-        None => members.push(("data", Json::from(digits(&file[element.bytes.start + 12..element.bytes.end])))),
-        Some(launch) => members.extend([
+    if let Body::Launch(launch) = &element.body {
+        members.extend([
             ("sinit_min_version", Json::from(u32::from(launch.sinit_min_version))),
             ("reserved", Json::from(u32::from(launch.reserved))),
-            ("hash_alg", hex(u64::from(launch.hash_alg))),
+        ]);
+    }
+    match element.digests() {
+        None => members.push(("data", Json::from(digits(body(file, element))))),
+        Some(named) => members.extend([
+            ("hash_alg", hex(u64::from(named.hash_alg))),
             ("hashes", Json::List(digests(file, element).map(Json::from).collect())),
         ]),
     }

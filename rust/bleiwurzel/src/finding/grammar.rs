@@ -14,14 +14,25 @@ pub struct List {
 pub struct Element {
     pub at: u64,
     pub kind: u64,
-    /// Of type 0x10 only.
-    pub launch: Option<Launch>,
+    pub body: Body,
 }
 
-pub struct Launch {
-    pub sinit_min_version: u64,
+/// What of an element's body has fields.
+pub enum Body {
+    /// Of type 0x10.
+    Launch {
+        sinit_min_version: u64,
+        digests: Digests,
+    },
+    /// Of type 0x14.
+    Stm(Digests),
+    Other,
+}
+
+/// Digests of one algorithm.
+pub struct Digests {
     pub hash_alg: u64,
-    pub digests: Vec<Range<u64>>,
+    pub places: Vec<Range<u64>>,
 }
 
 struct Reader<'a> {
@@ -139,36 +150,62 @@ impl Reader<'_> {
             need(size >= 12, 27, place.as_str(), "at least 12, since the size counts size, type and control", size.to_string())?;
             need(size <= left, 27, place, format!("at most {left}, the bytes left in the list's elements"), size.to_string())?;
             let kind = self.number(at + 4, 4, "")?;
-            let launch = if kind == u64::from(policy::LAUNCH) { Some(self.launch(at, size, &name)?) } else { None };
-            elements.push(Element { at, kind, launch });
+            let body = self.body(kind, &Bounds { at, end: at + size, name: &name })?;
+            elements.push(Element { at, kind, body });
             at += size;
         }
         Ok(elements)
     }
 
-    fn launch(&self, at: u64, size: u64, name: &dyn Fn(&str) -> String) -> Step<Launch> {
-        let end = at + size;
-        let within = |offset: u64, width: usize, field: &str| {
-            self.number_before(at + offset, width, end, &format!("the element of {size} bytes"), &name(field))
-        };
-        let sinit_min_version = within(12, 1, "SINITMinVersion")?;
-        within(13, 1, "the reserved byte")?;
-        let hash_alg = within(14, 2, "HashAlg")?;
+    fn body(&self, kind: u64, element: &Bounds) -> Step<Body> {
+        let body = element.at + 12;
+        if kind == u64::from(policy::LAUNCH) {
+            let sinit_min_version = self.number_within(body, 1, element, "SINITMinVersion")?;
+            self.number_within(body + 1, 1, element, "the reserved byte")?;
+            return Ok(Body::Launch { sinit_min_version, digests: self.digests(body + 2, element)? });
+        }
+        if kind == u64::from(policy::STM) {
+            return Ok(Body::Stm(self.digests(body, element)?));
+        }
+        Ok(Body::Other)
+    }
+
+    /// A field of an element.
+    fn number_within(&self, at: u64, width: usize, element: &Bounds, field: &str) -> Step<u64> {
+        self.number_before(at, width, element.end, &format!("the element of {} bytes", element.size()), &(element.name)(field))
+    }
+
+    /// The algorithm, the count and the digests that stand at an offset and fill the element up to its end.
+    fn digests(&self, at: u64, element: &Bounds) -> Step<Digests> {
+        let hash_alg = self.number_within(at, 2, element, "HashAlg")?;
         let length = match policy::algorithm(hash_alg as u16) {
-            Some((length, _)) => length,
+            Some((length, _)) => length as u64,
             None => {
                 let expected = "0x0004, 0x000b, 0x000c, 0x000d or 0x0012";
-                return fail(27, self.place(&name("HashAlg"), at + 14), expected, format!("{hash_alg:#06x}"));
+                return fail(27, self.place(&(element.name)("HashAlg"), at), expected, format!("{hash_alg:#06x}"));
             }
         };
-        let count = within(16, 2, "the digest count")?;
-        let length = length as u64;
-        let whole = 18 + count * length;
-        let expected = format!("digests of {length} bytes that fill the element of {size} bytes");
+        let count = self.number_within(at + 2, 2, element, "the digest count")?;
+        let first = at + 4;
+        let whole = first - element.at + count * length;
+        let expected = format!("digests of {length} bytes that fill the element of {} bytes", element.size());
         let makes = if count == 1 { "makes" } else { "make" };
         let found = format!("{}, which {makes} {whole} bytes with what stands before", counted(count, "digest"));
-        need(whole == size, 27, self.place(&name("the digest count"), at + 16), expected, found)?;
-        let digests = (0..count).map(|k| at + 18 + k * length..at + 18 + (k + 1) * length).collect();
-        Ok(Launch { sinit_min_version, hash_alg, digests })
+        need(whole == element.size(), 27, self.place(&(element.name)("the digest count"), at + 2), expected, found)?;
+        let places = (0..count).map(|k| first + k * length..first + (k + 1) * length).collect();
+        Ok(Digests { hash_alg, places })
+    }
+}
+
+/// An element by its first byte and its end, and how its fields are called.
+struct Bounds<'a> {
+    at: u64,
+    end: u64,
+    name: &'a dyn Fn(&str) -> String,
+}
+
+impl Bounds<'_> {
+    fn size(&self) -> u64 {
+        self.end - self.at
     }
 }

@@ -8,7 +8,7 @@ use std::fmt;
 pub const OR_MORE: &str = " or more";
 
 /// How long a part is.
-#[derive(Clone, Copy, Debug, PartialEq, Eq)]
+#[derive(Clone, Copy, Debug, Default, PartialEq, Eq)]
 pub struct Length {
     /// As far as it was read.
     pub bytes: u64,
@@ -29,7 +29,7 @@ impl fmt::Display for Length {
     }
 }
 
-/// The lengths of the four parts. A caller that reads files up to a limit says so here; a module that is too long for any platform need
+/// The lengths of the five parts. A caller that reads files up to a limit says so here; a module that is too long for any platform need
 /// not be in [`Parts`] at all.
 #[derive(Clone, Copy, Debug, PartialEq, Eq)]
 pub struct Lengths {
@@ -37,6 +37,7 @@ pub struct Lengths {
     pub heap: Length,
     pub sinit: Length,
     pub record: Length,
+    pub stm: Length,
 }
 
 impl Lengths {
@@ -47,6 +48,7 @@ impl Lengths {
             heap: Length::of(parts.heap),
             sinit: Length::of(parts.sinit),
             record: Length::of(parts.record),
+            stm: Length::of(parts.stm),
         }
     }
 }

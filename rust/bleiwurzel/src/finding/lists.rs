@@ -1,6 +1,6 @@
 //! Rules 23 to 26, 28 and 29: the policy record, the policy file's place and hash, and which list permits.
 
-use super::grammar::{Element, Launch, List};
+use super::grammar::{Body, Digests, Element, List};
 use super::heap::OsSinitData;
 use super::module::Module;
 use super::{bytes_of, digits, field, need, Finding, Length, Step};
@@ -103,11 +103,36 @@ pub fn hash(lists: &[List], file: &[u8], record: &Record) -> Step<()> {
     })
 }
 
+/// What a list is judged by besides the STM image.
+pub struct Criteria<'a> {
+    pub module: &'a Module,
+    /// Of the pages.
+    pub digest: [u8; 32],
+}
+
+/// The STM image, with its digest once that was asked for.
+pub struct Stm<'a> {
+    image: &'a [u8],
+    digest: Option<[u8; 32]>,
+}
+
+impl<'a> Stm<'a> {
+    pub fn of(image: &'a [u8]) -> Self {
+        Stm { image, digest: None }
+    }
+
+    /// The image may be long, so it is hashed only where this is asked, and once.
+    fn digest(&mut self) -> [u8; 32] {
+        let image = self.image;
+        *self.digest.get_or_insert_with(|| sha256(image))
+    }
+}
+
 /// Rule 29.
-pub fn permits(lists: &[List], file: &[u8], module: &Module, digest: &[u8; 32]) -> Step<()> {
+pub fn permits(lists: &[List], file: &[u8], criteria: &Criteria, mut stm: Stm) -> Step<()> {
     let mut notes = Vec::new();
     for (i, list) in lists.iter().enumerate() {
-        match objection(list, file, module, digest) {
+        match objection(list, file, criteria, &mut stm) {
             None => return Ok(()),
             Some(why) => notes.push(format!("list {i}: {why}")),
         }
@@ -115,56 +140,101 @@ pub fn permits(lists: &[List], file: &[u8], module: &Module, digest: &[u8; 32]) 
     Err(Finding {
         number: 29,
         place: "the lists of the policy file, counted from 0".to_string(),
-        expected: format!("an unsigned list of types 0x10 and 3 only, with a SHA-256 element that names {}", digits(digest)),
+        expected: format!(
+            "an unsigned list of types 0x10, 3 and 0x14 only, with a SHA-256 element of type 0x10 that names {} and, if it holds \
+             type 0x14, one of that type that names the STM image",
+            digits(&criteria.digest)
+        ),
         found: format!("{} in the file, and none like that", lists.len()),
         notes,
     })
 }
 
-/// Why a list does not permit, where it does not.
-fn objection(list: &List, file: &[u8], module: &Module, digest: &[u8; 32]) -> Option<String> {
-    let named: Vec<(usize, &Element)> =
-        list.elements.iter().enumerate().filter(|(_, element)| names(element, file, digest)).collect();
-    let low_enough = |element: &Element| {
-        element
-            .launch
-            .as_ref()
-            .map_or(false, |launch| launch.hash_alg == SHA256 && launch.sinit_min_version <= module.acm_version)
-    };
-    let kinds = list.elements.iter().map(|element| (element.at, element.kind as u32));
-    if let Some(hindrance) = policy::hindrance(list.key.is_some(), kinds) {
+/// Why a list does not permit, where it does not. The STM image is looked at last, since it has to be hashed for that.
+fn objection(list: &List, file: &[u8], criteria: &Criteria, stm: &mut Stm) -> Option<String> {
+    let named: Vec<Launch> = launches(list).filter(|launch| names(launch.digests, file, &criteria.digest)).collect();
+    if let Some(hindrance) = hindrance(list, stm) {
         let also = if named.is_empty() { " (and it does not name the digest)" } else { "" };
         return Some(format!("{hindrance}{also}"));
     }
-    if named.iter().any(|(_, element)| low_enough(element)) {
+    if named.is_empty() {
+        return Some(format!("it does not name the digest; it names {}", others(launches(list).map(|launch| launch.digests))));
+    }
+    too_new(&named, criteria.module.acm_version).or_else(|| other_stm(list, file, stm))
+}
+
+/// Why a list permits no image, whatever it names.
+fn hindrance(list: &List, stm: &Stm) -> Option<String> {
+    let kinds = list.elements.iter().map(|element| (element.at, element.kind as u32));
+    if let Some(hindrance) = policy::hindrance(list.key.is_some(), kinds) {
+        return Some(hindrance);
+    }
+    if !stm.image.is_empty() {
         return None;
     }
-    let (j, element) = match named.first() {
-        Some((j, element)) => (j, element),
-        None => {
-            return Some(unnamed(list));
+    let (j, element) = list.elements.iter().enumerate().find(|(_, element)| matches!(element.body, Body::Stm(_)))?;
+    Some(format!("element {j} (file offset {:#x}) is an STM element (type 0x14), and no STM image was given", element.at))
+}
+
+/// A launch element of a list.
+struct Launch<'a> {
+    number: usize,
+    element: &'a Element,
+    sinit_min_version: u64,
+    digests: &'a Digests,
+}
+
+fn launches(list: &List) -> impl Iterator<Item = Launch<'_>> {
+    list.elements.iter().enumerate().filter_map(|(number, element)| match &element.body {
+        Body::Launch { sinit_min_version, digests } => {
+            Some(Launch { number, element, sinit_min_version: *sinit_min_version, digests })
         }
-    };
-    let least = element.launch.as_ref().map_or(0, |launch| launch.sinit_min_version);
-    let version = module.acm_version;
+        _ => None,
+    })
+}
+
+/// The digests of each STM element of a list.
+fn stm_digests(list: &List) -> impl Iterator<Item = &Digests> {
+    list.elements.iter().filter_map(|element| match &element.body {
+        Body::Stm(digests) => Some(digests),
+        _ => None,
+    })
+}
+
+/// Whether one of these is the digest, by SHA-256.
+fn names(digests: &Digests, file: &[u8], digest: &[u8; 32]) -> bool {
+    digests.hash_alg == SHA256 && digests.places.iter().any(|range| part(file, range) == digest)
+}
+
+/// How many digests are named instead of one that is not.
+fn others<'a>(all: impl Iterator<Item = &'a Digests>) -> String {
+    let (ours, theirs): (Vec<&Digests>, Vec<&Digests>) = all.partition(|digests| digests.hash_alg == SHA256);
+    let count = |some: &[&Digests]| some.iter().map(|digests| digests.places.len()).sum::<usize>();
+    format!("{} other by SHA-256 and {} by other algorithms", count(&ours), count(&theirs))
+}
+
+/// Where all elements that name the image ask for a newer module, which one does.
+fn too_new(named: &[Launch], version: u64) -> Option<String> {
+    if named.iter().any(|launch| launch.sinit_min_version <= version) {
+        return None;
+    }
+    let Launch { number, element, sinit_min_version, .. } = named.first()?;
     Some(format!(
-        "element {j} (file offset {:#x}) names the digest, but its SINITMinVersion {least} is above AcmVersion {version}",
+        "element {number} (file offset {:#x}) names the digest, but its SINITMinVersion {sinit_min_version} is above AcmVersion {version}",
         element.at
     ))
 }
 
-/// What a list names instead of the digest.
-fn unnamed(list: &List) -> String {
-    let launches: Vec<&Launch> = list.elements.iter().filter_map(|element| element.launch.as_ref()).collect();
-    let others = launches.iter().filter(|launch| launch.hash_alg == SHA256).map(|launch| launch.digests.len()).sum::<usize>();
-    let by_others = launches.iter().filter(|launch| launch.hash_alg != SHA256).map(|launch| launch.digests.len()).sum::<usize>();
-    format!("it does not name the digest; it names {others} other by SHA-256 and {by_others} by other algorithms")
-}
-
-/// Whether this is a launch element that names the digest by SHA-256.
-fn names(element: &Element, file: &[u8], digest: &[u8; 32]) -> bool {
-    element
-        .launch
-        .as_ref()
-        .map_or(false, |launch| launch.hash_alg == SHA256 && launch.digests.iter().any(|range| part(file, range) == digest))
+/// Where a list holds STM elements and none names the STM image, what they name.
+fn other_stm(list: &List, file: &[u8], stm: &mut Stm) -> Option<String> {
+    stm_digests(list).next()?;
+    let digest = stm.digest();
+    if stm_digests(list).any(|digests| names(digests, file, &digest)) {
+        return None;
+    }
+    Some(format!(
+        "it names the digest, but its STM elements (type 0x14) do not name the STM image, whose digest is {}; they name {}",
+        digits(&digest),
+        others(stm_digests(list))
+    ))
 }

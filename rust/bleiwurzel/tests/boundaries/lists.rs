@@ -1,4 +1,4 @@
-//! Rules 26 to 29: the place of the policy file, its grammar, PolicyHash and the list that permits.
+//! Rules 26 to 29: the place of the policy file, its grammar, PolicyHash and the list that permits. STM elements stand in `stm`.
 //!
 //! A record of another length than 70 bytes is 23 before its PolicyHash is looked at.
 
@@ -243,7 +243,7 @@ fn elements() {
         ("types 0x10 and 0x10", || before(0x10), Ok(0)),
         ("types 3 and 0x10", || before(3), Ok(0)),
         ("types 0x13 and 0x10", || before(0x13), Err(29)),
-        ("types 0x14 and 0x10", || before(0x14), Err(29)),
+        ("types 0x15 and 0x10", || before(0x15), Err(29)),
         ("types 0 and 0x10", || before(0), Err(29)),
         ("types 0x0103 and 0x10", || before(0x0103), Err(29)),
         ("types 0x01000010 and 0x10", || before(0x0100_0010), Err(29)),

@@ -13,4 +13,5 @@ mod lists;
 mod module;
 mod order;
 mod record;
+mod stm;
 mod walk;

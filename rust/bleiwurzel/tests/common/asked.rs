@@ -25,6 +25,15 @@ pub fn asked(name: &str, image: &Image) -> Answer {
     given
 }
 
+/// What the capture program prints for an answer.
+pub fn printed(answer: &Answer, pages: &[u64]) -> String {
+    if answer.number != 0 {
+        return format!("refused {}\n", answer.number);
+    }
+    let addresses: String = pages[..answer.pages as usize].iter().map(|page| format!("{page:016x}\n")).collect();
+    format!("permitted pages={} list={}\n{addresses}", answer.pages, answer.list)
+}
+
 /// What is changed in a good image, and the number that the check answers for it then.
 pub type Case = (&'static str, fn(&mut Image), u32);
 

@@ -37,6 +37,8 @@ pub struct Image {
     pub heap: Vec<u8>,
     pub sinit: Vec<u8>,
     pub record: Vec<u8>,
+    /// The STM image; none unless a test gives one.
+    pub stm: Vec<u8>,
     pub platform: Platform,
     /// How many places the page list has.
     pub places: usize,
@@ -68,7 +70,7 @@ pub const ACM_VERSION: usize = INFORMATION + 36;
 
 impl Image {
     pub fn parts(&self) -> Parts<'_> {
-        Parts { window: &self.window, heap: &self.heap, sinit: &self.sinit, record: &self.record }
+        Parts { window: &self.window, heap: &self.heap, sinit: &self.sinit, record: &self.record, stm: &self.stm }
     }
 
     /// The physical address of a page of the window.
@@ -191,6 +193,7 @@ fn empty(shape: &Shape, length: usize) -> Image {
         heap: heap(shape),
         sinit: module(768),
         record: record(),
+        stm: Vec::new(),
         platform,
         places: MOST_PAGES,
         listed: Vec::new(),

@@ -8,6 +8,7 @@ mod policy_file;
 pub use asked::*;
 pub use image::*;
 pub use policy_file::*;
+use std::collections::HashMap;
 use std::path::{Path, PathBuf};
 
 /// The repository's top.
@@ -26,6 +27,15 @@ pub fn captures() -> Vec<(String, Vec<u8>)> {
         .collect();
     captures.sort();
     captures
+}
+
+/// A table of outputs: a name, a tab, and the whole output with `\n` for each line's end.
+pub fn outputs(path: &Path) -> HashMap<String, String> {
+    let text = std::fs::read_to_string(path).expect("a table of outputs");
+    text.lines()
+        .map(|line| line.split_once('\t').expect("a name, a tab, an output"))
+        .map(|(name, output)| (name.to_string(), output.replace("\\n", "\n")))
+        .collect()
 }
 
 /// Writes a little-endian number of `width` bytes.

@@ -13,13 +13,19 @@ pub fn element(kind: u32, body: &[u8]) -> Vec<u8> {
     element
 }
 
-/// The body of a launch element with so many digests, which are given as their bytes.
+/// The body of an STM element with so many digests, which are given as their bytes.
+pub fn stm_body(hash_alg: u16, count: u16, digests: &[u8]) -> Vec<u8> {
+    [&hash_alg.to_le_bytes(), &count.to_le_bytes(), digests].concat()
+}
+
+/// An STM element that names these SHA-256 digests.
+pub fn stm(digests: &[[u8; 32]]) -> Vec<u8> {
+    element(0x14, &stm_body(0x000b, digests.len() as u16, &digests.concat()))
+}
+
+/// The body of a launch element, which ends like that of an STM element.
 pub fn launch_body(sinit_min_version: u8, hash_alg: u16, count: u16, digests: &[u8]) -> Vec<u8> {
-    let mut body = vec![sinit_min_version, 0];
-    body.extend_from_slice(&hash_alg.to_le_bytes());
-    body.extend_from_slice(&count.to_le_bytes());
-    body.extend_from_slice(digests);
-    body
+    [&[sinit_min_version, 0][..], &stm_body(hash_alg, count, digests)].concat()
 }
 
 /// A launch element that names these SHA-256 digests.

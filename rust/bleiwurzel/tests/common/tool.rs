@@ -56,7 +56,7 @@ pub fn stored(name: &str) -> String {
     top().join("crates/stored_cases/data").join(name).to_string_lossy().into_owned()
 }
 
-/// Writes an image's parts and platform into a folder; gives the words for `check`.
+/// Writes an image's parts and platform into a folder; gives the words for `check`. Without an STM image there is no file for it.
 pub fn written(folder: &Path, image: &Image) -> Vec<String> {
     let p = &image.platform;
     let platform = format!(
@@ -65,15 +65,16 @@ pub fn written(folder: &Path, image: &Image) -> Vec<String> {
         p.window_base, p.heap_base, p.sinit_base, p.dpr_base, p.dpr_size, p.acram_capacity, p.vendor, p.device, p.revision
     )
     .replace("0XB", "0xB");
-    let parts: [(&str, &str, &[u8]); 5] = [
+    let parts: [(&str, &str, &[u8]); 6] = [
         ("--window", "window.bin", &image.window),
         ("--heap", "heap.bin", &image.heap),
         ("--sinit", "sinit.bin", &image.sinit),
         ("--policy-record", "record.bin", &image.record),
         ("--platform", "platform.txt", platform.as_bytes()),
+        ("--stm", "stm.bin", &image.stm),
     ];
     let mut words = Vec::new();
-    for (flag, name, bytes) in parts {
+    for (flag, name, bytes) in parts.into_iter().filter(|(flag, _, bytes)| *flag != "--stm" || !bytes.is_empty()) {
         let path = folder.join(name);
         std::fs::write(&path, bytes).expect("a part is written");
         words.extend([flag.to_string(), path.to_string_lossy().into_owned()]);

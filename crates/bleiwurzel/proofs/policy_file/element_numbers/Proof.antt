@@ -14,6 +14,9 @@ enum-known-e-2 c = search needs
 enum-known-e-3 : tie.Need-enum-known-e-3
 enum-known-e-3 c = search needs
 
+enum-known-e-4 : tie.Need-enum-known-e-4
+enum-known-e-4 c = search needs
+
 enum-told : tie.Need-enum-told
 enum-told c = search needs
 
@@ -34,6 +37,11 @@ returns-3 c =
 
 returns-4 : tie.Need-returns-4
 returns-4 c =
+    let e = sym (c .before .before .e4 .given .1) in
+    (ap elementKind e, ap elementFields e)
+
+returns-5 : tie.Need-returns-5
+returns-5 c =
     let e = sym (c .before .enum-told .given .1) in
     (ap elementKind e, ap elementFields e)
 
@@ -44,8 +52,10 @@ element-numbers-spec =
     enum-known-e
     enum-known-e-2
     enum-known-e-3
+    enum-known-e-4
     enum-told
     returns
     returns-2
     returns-3
-    returns-4)
+    returns-4
+    returns-5)

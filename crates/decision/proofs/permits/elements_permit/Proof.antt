@@ -1,93 +1,80 @@
--- `elements_permit` meets its contract. The invariant: whatever elements stand from `start` on, those that are left stand from the offset on, and
--- what they say with what was found is what all say.
-use Prim.Native.Nat.{_-_}
-use mathlib.Core.Logic.{⊎-elim}
-use mathlib.Core.List.{List}
-use native.Mathlib.Omega.{arith}
-use borrow.Author.Tests.{not-true, not-false}
-use lib.ListN.{length}
-use Rattle.policy_grammar.specs.Grammar.{Element}
-use Rattle.policy_reader.proofs.Standing as kinds
-use Rattle.policy_reader.proofs.Walk.{Left, front, onward, ended}
-use Rattle.decision.specs.Inner.{ElementsStand}
-use Rattle.decision.proofs.Judging.{Judging, judging-start, judging-end, fits, unjudged, judging-step}
+-- `elements_permit` meets its contract: by what the elements say.
+use Rattle.decision.proofs.Judging.{do-not-permit, do-permit, no-image, by-digest}
 use borrow.Author.Needs.{needs}
 use Rattle.decision.proofs.permits.elements_permit.Statement.{statement}
 use Rattle.decision.proofs.permits.elements_permit.Tie as tie
 
-abbrev Inv-loop : tie.InvT-loop
-Inv-loop t start k at₀ found₀ at found =
-    (es : List Element) → ElementsStand t start es → Left kinds.element t at (Judging k es found)
+elements-judged-requires : tie.Need-elements-judged-requires
+elements-judged-requires c κs = c .before .before .pre .0
 
-abbrev μ-loop : tie.MeasureT-loop
-μ-loop t start k at₀ found₀ at found = length t - at
+enum-told : tie.Need-enum-told
+enum-told c = search needs
 
-loop-holds : tie.Need-loop-holds Inv-loop μ-loop
-loop-holds c = λ es h. record { rest = es; valid = h .valid; stand = h .stand; kept = judging-start _ es }
-
-element-at-requires : tie.Need-element-at-requires Inv-loop μ-loop
-element-at-requires c κs = search needs
-
-judged-requires : tie.Need-judged-requires Inv-loop μ-loop
+judged-requires : tie.Need-judged-requires
 judged-requires c κs = search needs
 
-returns : tie.Need-returns Inv-loop μ-loop
-returns c = λ es stand.
-    let l = c .before .before .before .before .loop in
-    let t = front kinds.element _ _ _ (l .inv es stand) _ (c .before .before .before .loop-test .taken) (c .before .before .element-at .ensures .0) in
-    unjudged _ _ _ _ _ _ t _ (c .before .judged .ensures) (not-true _ (c .if1 .taken))
+enum-told-2 : tie.Need-enum-told-2
+enum-told-2 c = search needs
 
-names-requires : tie.Need-names-requires Inv-loop μ-loop
-names-requires c κs =
-    let l = c .before .before .before .before .loop in
-    let p = c .before .before .before .before .before .before .pre in
-    let t = front kinds.element _ _ _ (l .inv (p .0) (p .1)) _ (c .before .before .before .loop-test .taken) (c .before .before .element-at .ensures .0) in
-    fits _ _ _ _ _ _ t
+judged-requires-2 : tie.Need-judged-requires-2
+judged-requires-2 c κs = search needs
 
-element-size-requires : tie.Need-element-size-requires Inv-loop μ-loop
-element-size-requires c κs = search needs
+enum-told-3 : tie.Need-enum-told-3
+enum-told-3 c = search needs
 
-add-at : tie.Need-add-at Inv-loop μ-loop
-add-at c =
-    let at-element = c .before .before .before .before .before in
-    let l = at-element .before .before .loop in
-    let p = at-element .before .before .before .before .pre in
-    let t = front kinds.element _ _ _ (l .inv (p .0) (p .1)) _ (at-element .before .loop-test .taken) (at-element .element-at .ensures .0) in
-    omega (arith, t .within, c .element-size .ensures)
+judged-requires-3 : tie.Need-judged-requires-3
+judged-requires-3 c κs = search needs
 
-loop-less : tie.Need-loop-less Inv-loop μ-loop
-loop-less c =
-    let at-element = c .before .before .before .before .before in
-    let l = at-element .before .before .loop in
-    let p = at-element .before .before .before .before .pre in
-    let t = front kinds.element _ _ _ (l .inv (p .0) (p .1)) _ (at-element .before .loop-test .taken) (at-element .element-at .ensures .0) in
-    omega (arith, t .within, t .positive, c .element-size .ensures)
+stm-digest-requires : tie.Need-stm-digest-requires
+stm-digest-requires c κs = c .before .before .before .before .before .before .pre .1
 
-loop-again : tie.Need-loop-again Inv-loop μ-loop
-loop-again c = λ es stand.
-    let at-element = c .before .before .before .before .before in
-    let l = at-element .before .before .loop in
-    let t = front kinds.element _ _ _ (l .inv es stand) _ (at-element .before .loop-test .taken) (at-element .element-at .ensures .0) in
-    onward kinds.element _ _ _ _ _ t _ (c .element-size .ensures)
-    (judging-step _ _ _ _ _ _ t _ (c .before .before .before .before .judged .ensures) (not-false _ (c .before .before .before .if1 .left)) _ (c .before .before .names .ensures) _
-    (⊎-elim (λ w. rw (w .0 .taken) (w .1)) (λ w. rw (w .0 .left) (w .1)) (c .before .if2 .came)))
+stm-named-requires : tie.Need-stm-named-requires
+stm-named-requires c κs = c .before .before .before .before .before .before .before .before .before .pre .0
 
-returns-2 : tie.Need-returns-2 Inv-loop μ-loop
-returns-2 c = λ es stand. judging-end _ _ _ (ended kinds.element _ _ _ (c .before .loop .inv es stand) (c .loop-test .left))
+judged-requires-4 : tie.Need-judged-requires-4
+judged-requires-4 c κs = search needs
+
+returns : tie.Need-returns
+returns c =
+    let at-judged = c .before .before .before .before in
+    rw (c .judged3 .ensures)
+    (λ es stand. no-image _ es _ (at-judged .elements-judged .ensures es _ stand) (c .before .before .enum-told3 .given .1) (c .before .if1 .taken), at-judged .before .before .before .pre .1)
+
+returns-2 : tie.Need-returns-2
+returns-2 c =
+    let at-judged = c .before .before .before in
+    rw (c .judged .ensures)
+    (λ es stand. do-not-permit _ es _ (at-judged .elements-judged .ensures es _ stand) (c .before .enum-told .given .1), at-judged .before .before .before .pre .1)
+
+returns-3 : tie.Need-returns-3
+returns-3 c =
+    let at-judged = c .before .before .before in
+    rw (c .judged2 .ensures)
+    (λ es stand. do-permit _ es _ (at-judged .elements-judged .ensures es _ stand) (c .before .enum-told2 .given .1), at-judged .before .before .before .pre .1)
+
+returns-4 : tie.Need-returns-4
+returns-4 c =
+    let at-digest = c .before .before .before .before in
+    let known = at-digest .stm-digest .ensures in
+    let at-judged = at-digest .before .before .before .before in
+    rw (c .judged4 .ensures)
+    (λ es stand. by-digest _ es _ (at-judged .elements-judged .ensures es _ stand) (at-digest .before .before .enum-told3 .given .1) (at-digest .before .if1 .left) _ (known .1) _ (c .before .stm-named .ensures es stand), λ e. known .1)
 
 pub elements-permit-spec : {M : Type 1} → statement M
 elements-permit-spec =
     tie.close
     (tie.spec
-    Inv-loop
-    μ-loop
-    loop-holds
-    element-at-requires
+    elements-judged-requires
+    enum-told
     judged-requires
+    enum-told-2
+    judged-requires-2
+    enum-told-3
+    judged-requires-3
     returns
-    names-requires
-    element-size-requires
-    add-at
-    loop-less
-    loop-again
-    returns-2)
+    stm-digest-requires
+    stm-named-requires
+    judged-requires-4
+    returns-2
+    returns-3
+    returns-4)

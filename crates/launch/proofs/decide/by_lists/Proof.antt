@@ -14,7 +14,7 @@ refusal-requires c κs = search needs
 
 returns : tie.Need-returns
 returns c =
-    c .refusal .ensures ∙ not-placed _ _ _ (sym (c .before .before .file-placed .ensures) ∙ not-true _ (c .before .if1 .taken))
+    c .refusal .ensures ∙ not-placed _ _ _ _ (sym (c .before .before .file-placed .ensures) ∙ not-true _ (c .before .if1 .taken))
 
 file-requires : tie.Need-file-requires
 file-requires c κs = search needs
@@ -30,7 +30,7 @@ returns-2 c =
     let at-fault = c .before .before in
     let at-file = at-fault .before in
     c .refusal2 .ensures
-    ∙ file-refuses _ _ _ (sym (at-file .before .before .file-placed .ensures) ∙ not-false _ (at-file .before .if1 .left)) _ _
+    ∙ file-refuses _ _ _ _ (sym (at-file .before .before .file-placed .ensures) ∙ not-false _ (at-file .before .if1 .left)) _ _
     (at-file .file .ensures) (at-fault .file-fault .ensures) (c .before .if2 .taken)
 
 by-file-requires : tie.Need-by-file-requires
@@ -41,7 +41,7 @@ returns-3 c =
     let at-fault = c .before .before in
     let at-file = at-fault .before in
     c .by-file .ensures
-    ∙ file-passes _ _ _ (sym (at-file .before .before .file-placed .ensures) ∙ not-false _ (at-file .before .if1 .left)) _ _
+    ∙ file-passes _ _ _ _ (sym (at-file .before .before .file-placed .ensures) ∙ not-false _ (at-file .before .if1 .left)) _ _
     (at-file .file .ensures) (at-fault .file-fault .ensures) (c .before .if2 .left)
 
 pub by-lists-spec : {M : Type 1} → statement M

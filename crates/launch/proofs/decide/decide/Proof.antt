@@ -28,15 +28,15 @@ by-lists-requires c κs = search needs
 
 returns : tie.Need-returns
 returns c =
-    c .refusal .ensures ∙ record-refuses _ _ _ _ (sym (c .before .before .before .before .kind .ensures) ∙ c .before .before .n .given .1)
+    c .refusal .ensures ∙ record-refuses _ _ _ _ _ (sym (c .before .before .before .before .kind .ensures) ∙ c .before .before .n .given .1)
 
 returns-2 : tie.Need-returns-2
 returns-2 c =
-    c .by-any .ensures ∙ record-any _ _ _ (sym (c .before .before .before .kind .ensures) ∙ c .before .enum-told .given .1)
+    c .by-any .ensures ∙ record-any _ _ _ _ (sym (c .before .before .before .kind .ensures) ∙ c .before .enum-told .given .1)
 
 returns-3 : tie.Need-returns-3
 returns-3 c =
-    c .by-lists .ensures ∙ record-list _ _ _ (sym (c .before .before .before .kind .ensures) ∙ c .before .enum-told2 .given .1)
+    c .by-lists .ensures ∙ record-list _ _ _ _ (sym (c .before .before .before .kind .ensures) ∙ c .before .enum-told2 .given .1)
 
 pub decide-spec : {M : Type 1} → statement M
 decide-spec =

@@ -11,7 +11,7 @@ platform-holds-requires c κs = search needs
 
 returns : tie.Need-returns
 returns c =
-    λ r. platform-refuses _ _ _ r _ _ (sym (c .before .platform-holds .ensures) ∙ not-true _ (c .if1 .taken))
+    λ r. platform-refuses _ _ _ r _ _ _ (sym (c .before .platform-holds .ensures) ∙ not-true _ (c .if1 .taken))
 
 read-requires : tie.Need-read-requires
 read-requires c κs = search needs
@@ -45,7 +45,7 @@ returns-2 c =
     λ r.
     let at-heap = c .before .before .before in
     let platform = sym (at-heap .before .before .platform-holds .ensures) ∙ not-false _ (at-heap .before .if1 .left) in
-    heap-refuses _ _ _ r _ _ platform _ (sym (at-heap .read .ensures) ∙ c .before .n .given .1)
+    heap-refuses _ _ _ r _ _ _ platform _ (sym (at-heap .read .ensures) ∙ c .before .n .given .1)
 
 returns-3 : tie.Need-returns-3
 returns-3 c =
@@ -54,7 +54,7 @@ returns-3 c =
     let at-heap = at-module .before .before .before .before .before in
     let platform = sym (at-heap .before .before .platform-holds .ensures) ∙ not-false _ (at-heap .before .if1 .left) in
     let os = sym (at-heap .read .ensures) ∙ at-module .before .before .before .o .given .1 in
-    module-refuses _ _ _ r _ _ platform _ os _ (rw (at-module .before .chipset .ensures) at (sym (at-module .read2 .ensures)) ∙ c .before .n2 .given .1)
+    module-refuses _ _ _ r _ _ _ platform _ os _ (rw (at-module .before .chipset .ensures) at (sym (at-module .read2 .ensures)) ∙ c .before .n2 .given .1)
 
 returns-4 : tie.Need-returns-4
 returns-4 c =
@@ -64,7 +64,7 @@ returns-4 c =
     let platform = sym (at-heap .before .before .platform-holds .ensures) ∙ not-false _ (at-heap .before .if1 .left) in
     let os = sym (at-heap .read .ensures) ∙ at-module .before .before .before .o .given .1 in
     c .find-pages .ensures
-    ∙ module-passes _ _ _ r _ _ platform _ os _ (rw (at-module .before .chipset .ensures) at (sym (at-module .read2 .ensures)) ∙ c .before .before .before .m .given .1) _ (c .before .memory .ensures)
+    ∙ module-passes _ _ _ r _ _ _ platform _ os _ (rw (at-module .before .chipset .ensures) at (sym (at-module .read2 .ensures)) ∙ c .before .before .before .m .given .1) _ (c .before .memory .ensures)
 
 pub find-spec : {M : Type 1} → statement M
 find-spec =

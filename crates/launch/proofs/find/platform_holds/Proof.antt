@@ -10,42 +10,46 @@ use Rattle.launch.proofs.find.platform_holds.Statement.{statement}
 use Rattle.launch.proofs.find.platform_holds.Tie as tie
 
 returns : tie.Need-returns
-returns c = fails (platform-exactly _ _ _) (λ h. omega arith)
+returns c = fails (platform-exactly _ _ _ _) (λ h. omega arith)
 
 returns-2 : tie.Need-returns-2
-returns-2 c = fails (platform-exactly _ _ _) (λ h. omega arith)
+returns-2 c = fails (platform-exactly _ _ _ _) (λ h. omega arith)
 
 returns-3 : tie.Need-returns-3
-returns-3 c = fails (platform-exactly _ _ _) (λ h. omega arith)
+returns-3 c = fails (platform-exactly _ _ _ _) (λ h. omega arith)
+
+returns-4 : tie.Need-returns-4
+returns-4 c = fails (platform-exactly _ _ _ _) (λ h. omega arith)
 
 ends-requires : tie.Need-ends-requires
 ends-requires c κs = search needs
 
-returns-4 : tie.Need-returns-4
-returns-4 c = fails (platform-exactly _ _ _) (λ h. refuted _ (c .before .ends .ensures) (c .if4 .taken) (ends-exactly _ _ .1 (h .windowEnd)))
+returns-5 : tie.Need-returns-5
+returns-5 c = fails (platform-exactly _ _ _ _) (λ h. refuted _ (c .before .ends .ensures) (c .if5 .taken) (ends-exactly _ _ .1 (h .windowEnd)))
 
 ends-requires-2 : tie.Need-ends-requires-2
 ends-requires-2 c κs = search needs
 
-returns-5 : tie.Need-returns-5
-returns-5 c = fails (platform-exactly _ _ _) (λ h. refuted _ (c .before .ends2 .ensures) (c .if5 .taken) (ends-exactly _ _ .1 (h .heapEnd)))
+returns-6 : tie.Need-returns-6
+returns-6 c = fails (platform-exactly _ _ _ _) (λ h. refuted _ (c .before .ends2 .ensures) (c .if6 .taken) (ends-exactly _ _ .1 (h .heapEnd)))
 
 ends-requires-3 : tie.Need-ends-requires-3
 ends-requires-3 c κs = search needs
 
-returns-6 : tie.Need-returns-6
-returns-6 c =
+returns-7 : tie.Need-returns-7
+returns-7 c =
     let at-heap = c .before .before in
     let at-window = at-heap .before .before in
     c .ends3 .ensures
-    ∙ agrees _ (platform-exactly _ _ _)
+    ∙ agrees _ (platform-exactly _ _ _ _)
     (λ e.
     record {
       onPage = omega arith;
       windowMost = omega arith;
       heapMost = omega arith;
-      windowEnd = ends-exactly _ _ .0 (confirmed _ (at-window .ends .ensures) (at-heap .before .if4 .left));
-      heapEnd = ends-exactly _ _ .0 (confirmed _ (at-heap .ends2 .ensures) (c .before .if5 .left));
+      stmMost = omega arith;
+      windowEnd = ends-exactly _ _ .0 (confirmed _ (at-window .ends .ensures) (at-heap .before .if5 .left));
+      heapEnd = ends-exactly _ _ .0 (confirmed _ (at-heap .ends2 .ensures) (c .before .if6 .left));
       dprEnd = ends-exactly _ _ .0 e;
     })
     (λ e h. true≢false (sym (ends-exactly _ _ .1 (h .dprEnd)) ∙ e))
@@ -57,9 +61,10 @@ platform-holds-spec =
     returns
     returns-2
     returns-3
-    ends-requires
     returns-4
-    ends-requires-2
+    ends-requires
     returns-5
+    ends-requires-2
+    returns-6
     ends-requires-3
-    returns-6)
+    returns-7)

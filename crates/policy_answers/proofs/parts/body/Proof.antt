@@ -23,6 +23,12 @@ enum-known-e-3 c = search needs
 after-head-requires-3 : tie.Need-after-head-requires-3
 after-head-requires-3 c κs = search needs
 
+enum-known-e-4 : tie.Need-enum-known-e-4
+enum-known-e-4 c = search needs
+
+after-head-requires-4 : tie.Need-after-head-requires-4
+after-head-requires-4 c κs = search needs
+
 enum-told : tie.Need-enum-told
 enum-told c = search needs
 
@@ -39,7 +45,10 @@ returns-3 : tie.Need-returns-3
 returns-3 c = c .after-head3 .ensures ∙ sym (ap (bodyOf _) (c .before .before .e3 .given .1))
 
 returns-4 : tie.Need-returns-4
-returns-4 c = search needs
+returns-4 c = c .after-head4 .ensures ∙ sym (ap (bodyOf _) (c .before .before .e4 .given .1))
+
+returns-5 : tie.Need-returns-5
+returns-5 c = search needs
 
 pub body-spec : {M : Type 1} → statement M
 body-spec =
@@ -51,9 +60,12 @@ body-spec =
     after-head-requires-2
     enum-known-e-3
     after-head-requires-3
+    enum-known-e-4
+    after-head-requires-4
     enum-told
     slice-aggregate-result
     returns
     returns-2
     returns-3
-    returns-4)
+    returns-4
+    returns-5)

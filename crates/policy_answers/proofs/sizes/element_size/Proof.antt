@@ -14,6 +14,9 @@ enum-known-e-2 c = search needs
 enum-known-e-3 : tie.Need-enum-known-e-3
 enum-known-e-3 c = search needs
 
+enum-known-e-4 : tie.Need-enum-known-e-4
+enum-known-e-4 c = search needs
+
 enum-told : tie.Need-enum-told
 enum-told c = search needs
 
@@ -21,13 +24,16 @@ returns : tie.Need-returns
 returns c = sym (ap elementSize (c .before .e .given .1))
 
 returns-2 : tie.Need-returns-2
-returns-2 c = search needs
+returns-2 c = sym (ap elementSize (c .before .e2 .given .1))
 
 returns-3 : tie.Need-returns-3
 returns-3 c = search needs
 
 returns-4 : tie.Need-returns-4
 returns-4 c = search needs
+
+returns-5 : tie.Need-returns-5
+returns-5 c = search needs
 
 pub element-size-spec : {M : Type 1} → statement M
 element-size-spec =
@@ -36,8 +42,10 @@ element-size-spec =
     enum-known-e
     enum-known-e-2
     enum-known-e-3
+    enum-known-e-4
     enum-told
     returns
     returns-2
     returns-3
-    returns-4)
+    returns-4
+    returns-5)

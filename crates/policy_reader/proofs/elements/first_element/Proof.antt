@@ -1,5 +1,5 @@
 -- `first_element` meets its contract: one law for each answer.
-use Rattle.policy_reader.proofs.ElementTests.{element-short, element-small, element-long, element-launch, element-custom, element-unjudged}
+use Rattle.policy_reader.proofs.ElementTests.{element-short, element-small, element-long, element-launch, element-stm, element-custom, element-unjudged}
 use borrow.Author.Needs.{needs}
 use Rattle.policy_reader.proofs.elements.first_element.Statement.{statement}
 use Rattle.policy_reader.proofs.elements.first_element.Tie as tie
@@ -34,11 +34,23 @@ launch-requires c κs = search needs
 returns-4 : tie.Need-returns-4
 returns-4 c = search (needs, element-launch)
 
+part-stm-start : tie.Need-part-stm-start
+part-stm-start c = search needs
+
+part-stm-end : tie.Need-part-stm-end
+part-stm-end c = search needs
+
+stm-requires : tie.Need-stm-requires
+stm-requires c κs = search needs
+
 returns-5 : tie.Need-returns-5
-returns-5 c = search (needs, element-custom)
+returns-5 c = search (needs, element-stm)
 
 returns-6 : tie.Need-returns-6
-returns-6 c = search (needs, element-unjudged)
+returns-6 c = search (needs, element-custom)
+
+returns-7 : tie.Need-returns-7
+returns-7 c = search (needs, element-unjudged)
 
 pub first-element-spec : {M : Type 1} → statement M
 first-element-spec =
@@ -54,5 +66,9 @@ first-element-spec =
     part-launch-end
     launch-requires
     returns-4
+    part-stm-start
+    part-stm-end
+    stm-requires
     returns-5
-    returns-6)
+    returns-6
+    returns-7)

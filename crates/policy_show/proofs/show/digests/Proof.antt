@@ -6,10 +6,10 @@ use Rattle.policy_show.proofs.show.digests.Statement.{statement}
 use Rattle.policy_show.proofs.show.digests.Tie as tie
 
 abbrev Inv-loop : tie.InvT-loop
-Inv-loop b k at₀ t4 t5 at = at ≤ length b
+Inv-loop b start k at₀ t4 t5 at = at ≤ length b
 
 abbrev μ-loop : tie.MeasureT-loop
-μ-loop b k at₀ t4 t5 at = length b - at
+μ-loop b start k at₀ t4 t5 at = length b - at
 
 returns : tie.Need-returns Inv-loop μ-loop
 returns c = search needs

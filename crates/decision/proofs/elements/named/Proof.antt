@@ -3,15 +3,15 @@ use Prim.Native.Nat.{_+_, _*_, _≤_}
 use mathlib.Core.Path.{_≡_, refl}
 use Rattle.decision.proofs.Digests.{namedFrom, first-is, first-is-not, none-left}
 use borrow.Author.Needs.{needs}
-use Rattle.decision.proofs.permits.named.Statement.{statement}
-use Rattle.decision.proofs.permits.named.Tie as tie
+use Rattle.decision.proofs.elements.named.Statement.{statement}
+use Rattle.decision.proofs.elements.named.Tie as tie
 
 abbrev Inv-loop : tie.InvT-loop
-Inv-loop b count digest at₀ left₀ at left =
-    (left ≤ count) × (at + 32 * left ≡ 6 + 32 * count) × (namedFrom digest b 6 count ≡ namedFrom digest b at left)
+Inv-loop b start count digest at₀ left₀ at left =
+    (left ≤ count) × (at + 32 * left ≡ start + 32 * count) × (namedFrom digest b start count ≡ namedFrom digest b at left)
 
 abbrev μ-loop : tie.MeasureT-loop
-μ-loop b count digest at₀ left₀ at left = left
+μ-loop b start count digest at₀ left₀ at left = left
 
 loop-holds : tie.Need-loop-holds Inv-loop μ-loop
 loop-holds c = (search needs, search needs, refl)

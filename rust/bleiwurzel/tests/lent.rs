@@ -1,0 +1,80 @@
+//! Cases with an STM image, which no capture carries: the answer of the library, and of the finding. An independent model of the rules made the
+//! cases and their outputs once.
+//!
+//! A case is: the mark `LPX`; 32-bit number of places lent for pages; the platform as in a capture; 16-bit count of reserved ranges and 16 pairs
+//! of 64-bit base and size, of which there are none here; five 32-bit lengths (window, heap, module, record, STM image); the five parts.
+
+mod common;
+
+use bleiwurzel::{answer, finding, Parts, Platform};
+use common::{outputs, printed, UNTOUCHED};
+use std::path::{Path, PathBuf};
+
+fn folder() -> PathBuf {
+    Path::new(env!("CARGO_MANIFEST_DIR")).join("tests/data/lent")
+}
+
+/// What is left to read of a case.
+struct Case<'a>(&'a [u8]);
+
+impl<'a> Case<'a> {
+    fn bytes(&mut self, length: usize) -> &'a [u8] {
+        let (front, rest) = self.0.split_at(length);
+        self.0 = rest;
+        front
+    }
+
+    fn number(&mut self, width: usize) -> u64 {
+        self.bytes(width).iter().rev().fold(0, |value, byte| value << 8 | u64::from(*byte))
+    }
+
+    fn platform(&mut self) -> Platform {
+        let [window_base, heap_base, sinit_base, dpr_base, dpr_size, acram_capacity] = [(); 6].map(|()| self.number(8));
+        let [vendor, device, revision] = [(); 3].map(|()| self.number(2) as u16);
+        Platform { window_base, heap_base, sinit_base, dpr_base, dpr_size, acram_capacity, vendor, device, revision }
+    }
+
+    fn parts(&mut self) -> Parts<'a> {
+        let lengths = [(); 5].map(|()| self.number(4) as usize);
+        let [window, heap, sinit, record, stm] = lengths.map(|length| self.bytes(length));
+        Parts { window, heap, sinit, record, stm }
+    }
+}
+
+/// The parts, the platform and the number of places.
+fn split(bytes: &[u8]) -> (Parts<'_>, Platform, usize) {
+    let mut case = Case(bytes);
+    assert_eq!(case.bytes(3), b"LPX");
+    let places = case.number(4) as usize;
+    let platform = case.platform();
+    assert_eq!(case.number(2), 0, "reserved ranges");
+    case.bytes(16 * 16);
+    let parts = case.parts();
+    assert!(case.0.is_empty(), "bytes behind the parts");
+    (parts, platform, places)
+}
+
+#[test]
+fn every_case_has_its_output() {
+    let expected = outputs(&folder().join("expected.tsv"));
+    let names: Vec<String> = std::fs::read_dir(folder())
+        .expect("the cases")
+        .map(|entry| entry.expect("an entry of the folder").file_name().to_string_lossy().into_owned())
+        .filter(|name| name.ends_with(".case"))
+        .collect();
+    assert_eq!((names.len(), expected.len()), (8, 8), "as many cases as expected outputs");
+    for name in names {
+        let bytes = std::fs::read(folder().join(&name)).expect("a case");
+        let (parts, platform, places) = split(&bytes);
+        assert!(!parts.stm.is_empty(), "{name} has an STM image");
+        let mut pages = vec![UNTOUCHED; places];
+        let given = answer(&parts, &platform, &mut pages);
+        assert_eq!(printed(&given, &pages), expected[&name], "{name}");
+        assert!(
+            pages[given.pages as usize..].iter().all(|page| *page == UNTOUCHED),
+            "{name}: a place past the pages was written"
+        );
+        let found = finding::first(&parts, &platform, places);
+        assert_eq!(found.map_or(0, |finding| finding.number), given.number, "{name}: the finding's number");
+    }
+}

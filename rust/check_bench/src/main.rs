@@ -1,0 +1,113 @@
+//! Times the whole check of an image of two pages with the longest STM image. Where no list that could permit holds an STM element, against the
+//! same check without an STM image; where lists do, against the digest of the STM image. The two sides take turns in one process.
+//!
+//! With `--at-most R` it fails where the check takes more than R times as long as the other side. For that the median of the ratios of
+//! neighbouring runs counts, which another program on the machine changes least.
+
+#[path = "../../bleiwurzel/tests/common/mod.rs"]
+mod common;
+
+use bleiwurzel::{answer, sha256, Parts, MOST_STM};
+use common::*;
+use std::time::{Duration, Instant};
+
+/// A check takes microseconds, the digest of an STM image tens of milliseconds.
+const CHECKS: usize = 1000;
+const DIGESTS: usize = 15;
+
+fn timed(work: impl FnOnce()) -> Duration {
+    let start = Instant::now();
+    work();
+    start.elapsed()
+}
+
+/// The median of the ratios of the first to the second, which take turns.
+fn compare(name: &str, runs: usize, first: impl Fn(), second: impl Fn()) -> f64 {
+    let mut best = [Duration::MAX; 2];
+    let mut ratios = Vec::with_capacity(runs);
+    for _ in 0..runs {
+        let times = [timed(&first), timed(&second)];
+        best = [best[0].min(times[0]), best[1].min(times[1])];
+        ratios.push(times[0].as_secs_f64() / times[1].as_secs_f64());
+    }
+    ratios.sort_by(f64::total_cmp);
+    let median = ratios[runs / 2];
+    println!(
+        "{name}: {:.1} µs against {:.1} µs, {:.3} of the time (best of {runs} runs each; median of neighbours {median:.3})",
+        best[0].as_secs_f64() * 1e6,
+        best[1].as_secs_f64() * 1e6,
+        best[0].as_secs_f64() / best[1].as_secs_f64(),
+    );
+    median
+}
+
+/// An image under a policy, and the list that permits it.
+struct Case {
+    name: &'static str,
+    image: Image,
+    list: u32,
+}
+
+impl Case {
+    fn check(&self, stm: &[u8]) {
+        let parts = Parts { stm, ..self.image.parts() };
+        let given = answer(&parts, &self.image.platform, &mut [0; 2]);
+        assert_eq!((given.number, given.list), (0, self.list));
+    }
+}
+
+/// A launch element that names the image.
+fn naming(image: &Image) -> Vec<u8> {
+    launch(0, &[sha256(&image.bytes())])
+}
+
+/// Policies under which no list that could permit holds an STM element.
+fn not_asking() -> [Case; 3] {
+    let any = image(&Shape::default());
+    let (mle, other) = (naming(&any), stm(&[[1; 32]]));
+    let plain = list(&[mle.clone()]);
+    let hindered = [
+        signed(&[mle.clone(), other.clone()], 256),
+        list(&[mle, other.clone(), element(0x13, b"")]),
+        list(&[launch(0, &[[1; 32]]), other]),
+        plain.clone(),
+    ];
+    [
+        Case { name: "LIST without STM elements", image: with_lists(&any, &[plain]), list: 0 },
+        Case { name: "STM elements in lists that cannot permit", image: with_lists(&any, &hindered), list: 3 },
+        Case { name: "ANY", image: any, list: 255 },
+    ]
+}
+
+/// Eight lists with STM elements, of which the last names this STM image.
+fn asking(stm_image: &[u8]) -> Case {
+    let any = image(&Shape::default());
+    let mut lists = vec![list(&[naming(&any), stm(&[[1; 32]])]); 7];
+    lists.push(list(&[naming(&any), stm(&[sha256(stm_image)])]));
+    Case { name: "eight lists with STM elements", image: with_lists(&any, &lists), list: 7 }
+}
+
+fn main() {
+    let words: Vec<String> = std::env::args().skip(1).collect();
+    let limit = match words.as_slice() {
+        [] => f64::INFINITY,
+        [flag, number] if flag == "--at-most" => number.parse().expect("a number follows --at-most"),
+        _ => panic!("usage: check_bench [--at-most RATIO]"),
+    };
+    let stm_image: Vec<u8> = (0..MOST_STM).map(|i| (i * 7 + i / 251) as u8).collect();
+    let mut greatest: f64 = 0.0;
+    for case in not_asking() {
+        let name = format!("{}, with and without an STM image", case.name);
+        greatest = greatest.max(compare(&name, CHECKS, || case.check(&stm_image), || case.check(&[])));
+    }
+    let case = asking(&stm_image);
+    let name = format!("{}, and the digest of the STM image", case.name);
+    let digest = || {
+        sha256(&stm_image);
+    };
+    greatest = greatest.max(compare(&name, DIGESTS, || case.check(&stm_image), digest));
+    if greatest > limit {
+        eprintln!("more than {limit} times as long");
+        std::process::exit(1);
+    }
+}

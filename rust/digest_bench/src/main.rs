@@ -1,5 +1,5 @@
-//! Times the proved digest against the plain one: 16 MiB, in parts of 4,096 bytes and in one piece. The two take turns in one
-//! process, and the best of all runs counts, so that what else the machine does hits both alike.
+//! Times the proved digest of 16 MiB against the plain one. The two take turns in one process, and the best of all runs counts, so that what
+//! else the machine does hits both alike.
 //!
 //! With `--at-most R` it fails where the proved digest is slower than R times the plain one. For that the median of the ratios of
 //! neighbouring runs counts, which another program on the machine changes least.
@@ -9,22 +9,26 @@ use std::time::{Duration, Instant};
 const SIZE: usize = 16 << 20;
 const RUNS: usize = 25;
 
-fn timed(digest: fn(&[u8], usize) -> [u8; 32], message: &[u8], part: usize) -> (Duration, [u8; 32]) {
+fn timed(digest: impl Fn(&[u8]) -> [u8; 32], message: &[u8]) -> (Duration, [u8; 32]) {
     let start = Instant::now();
-    let result = digest(message, part);
+    let result = digest(message);
     (start.elapsed(), result)
+}
+
+fn plain(message: &[u8]) -> [u8; 32] {
+    plain_sha256::digest_in_parts(message, 0)
 }
 
 fn megabytes_a_second(time: Duration) -> f64 {
     SIZE as f64 / 1e6 / time.as_secs_f64()
 }
 
-fn compare(name: &str, message: &[u8], part: usize) -> f64 {
+fn compare(message: &[u8]) -> f64 {
     let mut best = [Duration::MAX; 2];
     let mut ratios = Vec::with_capacity(RUNS);
     for _ in 0..RUNS {
-        let (ours, our_digest) = timed(bench_exports::digest_in_parts, message, part);
-        let (theirs, their_digest) = timed(plain_sha256::digest_in_parts, message, part);
+        let (ours, our_digest) = timed(bleiwurzel::sha256, message);
+        let (theirs, their_digest) = timed(plain, message);
         assert_eq!(our_digest, their_digest, "the two digests differ");
         best = [best[0].min(ours), best[1].min(theirs)];
         ratios.push(ours.as_secs_f64() / theirs.as_secs_f64());
@@ -32,7 +36,7 @@ fn compare(name: &str, message: &[u8], part: usize) -> f64 {
     ratios.sort_by(f64::total_cmp);
     let median = ratios[RUNS / 2];
     println!(
-        "{name}: proved {:.1} MB/s, plain Rust {:.1} MB/s, time {:.3} of Rust's (best of {RUNS} runs each; median of neighbours {median:.3})",
+        "16 MiB: proved {:.1} MB/s, plain Rust {:.1} MB/s, time {:.3} of Rust's (best of {RUNS} runs each; median of neighbours {median:.3})",
         megabytes_a_second(best[0]),
         megabytes_a_second(best[1]),
         best[0].as_secs_f64() / best[1].as_secs_f64(),
@@ -48,9 +52,7 @@ fn main() {
         _ => panic!("usage: digest_bench [--at-most RATIO]"),
     };
     let message: Vec<u8> = (0..SIZE).map(|i| (i * 7 + i / 251) as u8).collect();
-    let in_parts = compare("16 MiB in parts of 4096 bytes", &message, 4096);
-    let whole = compare("16 MiB in one piece", &message, 0);
-    if in_parts.max(whole) > limit {
+    if compare(&message) > limit {
         eprintln!("slower than {limit} times plain Rust");
         std::process::exit(1);
     }

@@ -1,27 +1,48 @@
-//! Times the page work of an image of 4,096 pages, which is the walk through its tables and the page list (each page looked up, its
-//! address written), against the digest of the pages. The two take turns in one process.
+//! Times the check of an image of 4,096 pages against the digest of its pages: refused by its MLE header, which is after all page work but the
+//! page list and before the digest, and permitted. Plain Rust's digest of the pages, in parts of a page, stands beside them. All take turns in one
+//! process.
 //!
-//! With `--at-most R` it fails where the page work takes more than R of the digest's time. For that the median of the ratios of
-//! neighbouring runs counts, which another program on the machine changes least.
+//! With `--at-most R` it fails where the refused check takes more than R of the digest's time, or the permitted one more than 1 + R of it. For
+//! that the median of the ratios of neighbouring runs counts, which another program on the machine changes least.
 
-mod image;
+#[path = "../../bleiwurzel/tests/common/mod.rs"]
+mod common;
 
-use image::{BASE, COUNT, FIRST};
+use bleiwurzel::{answer, sha256, Answer, MOST_PAGES, PAGE_SIZE};
+use common::*;
 use std::time::{Duration, Instant};
 
 const RUNS: usize = 25;
+const HEADER_FAULT: u32 = 22;
+
+fn timed<T>(work: impl FnOnce() -> T) -> (Duration, T) {
+    let start = Instant::now();
+    let result = work();
+    (start.elapsed(), result)
+}
 
 fn median_of(mut values: Vec<f64>) -> f64 {
     values.sort_by(f64::total_cmp);
     values[values.len() / 2]
 }
 
-fn check(window: &[u8], digest: [u8; 32], pages: &[u64]) {
-    assert_eq!(digest, plain_sha256::digest_in_parts(image::content(window), 0), "the digest is not that of the pages");
-    for (k, page) in pages.iter().enumerate() {
-        let expected = if k < COUNT { image::address_of(k) } else { 0 };
-        assert_eq!(*page, expected, "place {k} of the page list");
-    }
+/// The answer, and the page list.
+fn asked(image: &Image) -> (Answer, Vec<u64>) {
+    let mut pages = vec![0; MOST_PAGES];
+    let answer = answer(&image.parts(), &image.platform, &mut pages);
+    (answer, pages)
+}
+
+/// The image with one byte of the mark of its MLE header changed.
+fn refused(image: &Image) -> Image {
+    let mut other = image.clone();
+    let mark = other.header(0);
+    other.window[mark] ^= 1;
+    other
+}
+
+fn microseconds(time: Duration) -> f64 {
+    time.as_secs_f64() * 1e6
 }
 
 fn main() {
@@ -31,36 +52,31 @@ fn main() {
         [flag, number] if flag == "--at-most" => number.parse().expect("a number follows --at-most"),
         _ => panic!("usage: pages_bench [--at-most RATIO]"),
     };
-    let window = image::window();
-    let mut best = [Duration::MAX; 3];
-    let mut ratios = Vec::with_capacity(RUNS);
-    for run in 0..RUNS {
-        let mut pages = vec![0u64; COUNT + 1];
-        let start = Instant::now();
-        let digest = bench_exports::digest_of_pages(&window, BASE, FIRST, COUNT as u32);
-        let hashed = start.elapsed();
-        let start = Instant::now();
-        let walked = bench_exports::walk(&window, BASE);
-        let walk = start.elapsed();
-        bench_exports::page_list(&window, BASE, FIRST, COUNT as u32, &mut pages);
-        let work = start.elapsed();
-        assert_eq!(walked, (0, FIRST, COUNT as u32), "the walk's number, first page and count");
-        if run == 0 {
-            check(&window, digest, &pages);
+    let good = image(&Shape { pages: MOST_PAGES, ..Shape::default() });
+    let (bad, content) = (refused(&good), good.bytes());
+    let mut best = [Duration::MAX; 4];
+    let (mut before, mut whole) = (Vec::with_capacity(RUNS), Vec::with_capacity(RUNS));
+    for _ in 0..RUNS {
+        let (hashed, digest) = timed(|| sha256(&content));
+        let (early, (refusal, _)) = timed(|| asked(&bad));
+        let (all, (permission, pages)) = timed(|| asked(&good));
+        let (plain, theirs) = timed(|| plain_sha256::digest_in_parts(&content, PAGE_SIZE as usize));
+        assert_eq!((refusal.number, permission.number, permission.digest, digest), (HEADER_FAULT, 0, theirs, theirs));
+        assert_eq!(pages, good.listed, "the page list");
+        for (least, time) in best.iter_mut().zip([hashed, early, all, plain]) {
+            *least = time.min(*least);
         }
-        best = [best[0].min(hashed), best[1].min(walk), best[2].min(work)];
-        ratios.push(work.as_secs_f64() / hashed.as_secs_f64());
+        before.push(early.as_secs_f64() / hashed.as_secs_f64());
+        whole.push(all.as_secs_f64() / hashed.as_secs_f64());
     }
-    let median = median_of(ratios);
+    let (before, whole) = (median_of(before), median_of(whole));
+    let [hashed, early, all, plain] = best.map(microseconds);
     println!(
-        "{COUNT} pages: digest {:.1} µs, walk {:.1} µs, walk and page list {:.1} µs, {:.5} of the digest's time (best of {RUNS} runs each; median of neighbours {median:.5})",
-        best[0].as_secs_f64() * 1e6,
-        best[1].as_secs_f64() * 1e6,
-        best[2].as_secs_f64() * 1e6,
-        best[2].as_secs_f64() / best[0].as_secs_f64(),
+        "{MOST_PAGES} pages: digest {hashed:.1} µs; the check up to the digest {early:.1} µs, {before:.5} of it; the whole check {all:.1} µs, \
+         {whole:.3} of it; plain Rust's digest {plain:.1} µs (best of {RUNS} runs each; ratios are medians of neighbours)"
     );
-    if median > limit {
-        eprintln!("over {limit} of the digest's time");
+    if before > limit || whole > 1.0 + limit {
+        eprintln!("over {limit} of the digest's time beside the digest");
         std::process::exit(1);
     }
 }

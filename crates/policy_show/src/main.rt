@@ -50,27 +50,54 @@ fn named(path: &[u8]) {
     libc::close(fd);
 }
 
-// The policy file that an argument names, after a line with the name; whether there is such an argument.
-fn argument(i: usize) -> bool {
+// How much is shown of a name that is too long for a path.
+const CUT: usize = 64;
+
+// An argument that is longer than any path: its first bytes where the name would stand, and on standard error.
+fn overlong(i: usize) {
+    let mut start = [0u8; CUT];
+    os::arg(i, &mut start);
+    io::write_all(1, b"file ");
+    io::write_all(1, &start);
+    io::write_all(1, b"..\n");
+    io::write_all(2, &start);
+    io::write_all(2, b"..: File name too long\n");
+}
+
+// The policy file that an argument names, after a line with the name.
+fn argument(i: usize) {
     let mut path = io::buffer();
     let length = os::arg(i, &mut path);
     if os::errno() != 0 {
-        return false;
+        overlong(i);
+        return;
     }
     io::write_all(1, b"file ");
     io::write_all(1, &path[..length]);
     io::write_all(1, b"\n");
     named(&path[..length]);
-    true
+}
+
+// One more than the last argument that is shown; the program's own name is argument 0.
+const END: usize = 1000;
+
+// Says on standard error that there are more names.
+fn others() {
+    io::write_all(2, b"the first 999 names are shown, and no others\n");
 }
 
 fn main() {
-    if !argument(1) {
+    let count = os::arg_count();
+    if count < 2 {
         input();
         return;
     }
-    let mut i: usize = 2;
-    while i < 1000 && argument(i) {
+    let mut i: usize = 1;
+    while i < END && i < count {
+        argument(i);
         i += 1;
+    }
+    if i < count {
+        others();
     }
 }

@@ -1,17 +1,17 @@
--- `main` ends: at most 1,000 arguments are shown.
+-- `main` ends: at most 999 arguments are shown.
 use Prim.Native.Nat.{_≤_, _-_}
 use borrow.Author.Needs.{needs}
 use Rattle.policy_show.proofs.main.Statement.{statement}
 use Rattle.policy_show.proofs.main.Tie as tie
 
 abbrev Inv-loop : tie.InvT-loop
-Inv-loop i₀ i = i ≤ 1000
+Inv-loop count i₀ i = i ≤ 1000
 
 abbrev μ-loop : tie.MeasureT-loop
-μ-loop i₀ i = 1000 - i
+μ-loop count i₀ i = 1000 - i
 
-argument-requires : tie.Need-argument-requires Inv-loop μ-loop
-argument-requires c κs = search needs
+arg-count-requires : tie.Need-arg-count-requires Inv-loop μ-loop
+arg-count-requires c κs = search needs
 
 input-requires : tie.Need-input-requires Inv-loop μ-loop
 input-requires c κs = search needs
@@ -22,8 +22,8 @@ returns c = search needs
 loop-holds : tie.Need-loop-holds Inv-loop μ-loop
 loop-holds c = search needs
 
-argument-requires-2 : tie.Need-argument-requires-2 Inv-loop μ-loop
-argument-requires-2 c κs = search needs
+argument-requires : tie.Need-argument-requires Inv-loop μ-loop
+argument-requires c κs = search needs
 
 add-i : tie.Need-add-i Inv-loop μ-loop
 add-i c = search needs
@@ -33,6 +33,9 @@ loop-less c = search needs
 
 loop-again : tie.Need-loop-again Inv-loop μ-loop
 loop-again c = search needs
+
+others-requires : tie.Need-others-requires Inv-loop μ-loop
+others-requires c κs = search needs
 
 returns-2 : tie.Need-returns-2 Inv-loop μ-loop
 returns-2 c = search needs
@@ -46,13 +49,14 @@ main-spec =
     (tie.spec
     Inv-loop
     μ-loop
-    argument-requires
+    arg-count-requires
     input-requires
     returns
     loop-holds
-    argument-requires-2
+    argument-requires
     add-i
     loop-less
     loop-again
+    others-requires
     returns-2
     returns-3)

@@ -74,15 +74,44 @@ static void captures(void)
     NEED(a.number == BLEIWURZEL_PERMITTED && a.pages == 2 && list[0] == 0x104000 && list[1] == 0x105000);
 }
 
-/* bleiwurzel_check_measured with an STM image, for a page list of two places. */
+/* bleiwurzel_check_measured with an STM image, for a page list of two places. bleiwurzel_check, by bleiwurzel_launch, must answer the same, and
+ * both leave the page list as it was or write the same pages. */
 static uint32_t measured(const uint8_t *stm, size_t stm_length, uint8_t digest[32], uint8_t measurement[32])
 {
-    uint64_t list[2];
+    uint64_t list[2] = { UNTOUCHED, UNTOUCHED }, other[2] = { UNTOUCHED, UNTOUCHED };
     uint32_t counts[2];
-    return bleiwurzel_check_measured(window, sizeof window, heap, sizeof heap, sinit, sizeof sinit, record, sizeof record, stm, stm_length,
-                                     platform.window_base, platform.heap_base, platform.sinit_base, platform.dpr_base, platform.dpr_size,
-                                     platform.acram_capacity, platform.vendor, platform.device, platform.revision, list, 2, counts, digest,
-                                     measurement);
+    uint32_t number = bleiwurzel_check_measured(window, sizeof window, heap, sizeof heap, sinit, sizeof sinit, record, sizeof record, stm,
+                                                stm_length, platform.window_base, platform.heap_base, platform.sinit_base, platform.dpr_base,
+                                                platform.dpr_size, platform.acram_capacity, platform.vendor, platform.device,
+                                                platform.revision, list, 2, counts, digest, measurement);
+    struct bleiwurzel_answer a = launched(stm, stm_length, other, 2);
+    NEED(a.number == number && a.pages == counts[0] && a.list == counts[1]);
+    NEED(memcmp(a.digest, digest, 32) == 0 && memcmp(list, other, sizeof list) == 0);
+    NEED((list[0] == UNTOUCHED) == (number != BLEIWURZEL_PERMITTED));
+    return number;
+}
+
+/* Refusals before the policy is looked at: one of the heap, one of the module, one of the pages, and the first rule. */
+static void refusals(void)
+{
+    static const uint8_t zeros[32];
+    uint8_t digest[32], measurement[32];
+    const struct {
+        uint8_t *byte;
+        uint32_t number;
+    } cases[] = {
+        { heap + 25, BLEIWURZEL_OSSINITDATA },
+        { sinit, BLEIWURZEL_MODULE_HEADER },
+        { window + 3 * PAGE + 8, BLEIWURZEL_PAGE_COUNT },
+    };
+    for (size_t i = 0; i < sizeof cases / sizeof cases[0]; i++) {
+        *cases[i].byte ^= 1;
+        NEED(measured(zeros, 0, digest, measurement) == cases[i].number);
+        NEED(memcmp(digest, zeros, 32) == 0 && memcmp(measurement, zeros, 32) == 0);
+        *cases[i].byte ^= 1;
+    }
+    static uint8_t stm[BLEIWURZEL_MOST_STM + 1];
+    NEED(measured(stm, sizeof stm, digest, measurement) == BLEIWURZEL_LIMITS);
 }
 
 /* Puts a policy file of one unsigned list, whose elements have this size, at the window's front, and makes the record one of type LIST whose
@@ -223,6 +252,7 @@ int main(void)
     digests();
     launches();
     captures();
+    refusals();
     measurements();
     stm_images();
     policies();

@@ -131,6 +131,13 @@ status 0 capture <&-
 status 2 - <"$folder"
 grep -q "cannot be read" "$folder/err" || fail "it is not said that the capture cannot be read"
 
+# A file without end: one byte more than a capture has is read, and no more is written. The limit keeps a copy of all of it from filling the disk.
+for file in - /dev/zero; do
+    got=0
+    (ulimit -f 1024 && exec timeout 20 ./launch-check "$file") >"$folder/out" 2>"$folder/err" </dev/zero || got=$?
+    [ "$got" -eq 0 ] || fail "status $got and not 0 for a file without end: $file"
+done
+
 # A reader that has gone away is no signal, and a name that cannot be opened is shown without its control characters.
 {
     sleep 0.2

@@ -1,7 +1,7 @@
 //! The reader of policy files: the number of a string, any list or element of it by number or at an offset, and all of them in turn.
 //! Offsets count from the file's first byte.
 
-use crate::{ffi, Refusal};
+use crate::{ffi, refusals, Refusal};
 use std::ops::Range;
 
 /// The offset of the first list of every policy file.
@@ -175,7 +175,7 @@ pub fn elements(file: &[u8], list: &List) -> Vec<Element> {
 /// Why a list permits no image at all, where that is so by its signature or by the types of its elements, which come with their offsets.
 pub fn hindrance(signed: bool, elements: impl Iterator<Item = (u64, u32)>) -> Option<String> {
     if signed {
-        return Some("it is signed, and signed lists do not permit yet".to_string());
+        return Some(format!("it is signed, and signed lists {}", refusals::SIGNED_LISTS));
     }
     let (j, (at, kind)) = elements.enumerate().find(|(_, (_, kind))| ![LAUNCH, CUSTOM, STM].contains(kind))?;
     let whose = if kind == TBOOT_CUSTOM { ", as tboot's tools write custom elements," } else { "" };

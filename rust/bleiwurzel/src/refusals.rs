@@ -95,6 +95,29 @@ macro_rules! make_list {
     };
 }
 
+/// Of a fault of the image: only its builder can repair it.
+macro_rules! not_at_the_rack {
+    () => {
+        "Nothing at the rack repairs this"
+    };
+}
+
+/// Of a rule about the record that is tried under every policy.
+macro_rules! under_any {
+    () => {
+        "It holds under ANY too."
+    };
+}
+
+macro_rules! signed_lists {
+    () => {
+        "are read and measured, but do not permit yet"
+    };
+}
+
+/// What holds of signed lists, for who says of one list why it does not permit.
+pub const SIGNED_LISTS: &str = signed_lists!();
+
 pub static TEXTS: [Text; 30] = [
     Text {
         number: 1,
@@ -172,7 +195,7 @@ pub static TEXTS: [Text; 30] = [
             "An element's size counts only its data and not its own 8 bytes.",
             "OsSinitData's size ends in the middle of an element.",
         ],
-        technician: &["Nothing at the rack repairs this; it comes from the boot loader. Hand what the tool found, and where, to the image's builder."],
+        technician: &[concat!(not_at_the_rack!(), "; it comes from the boot loader. Hand what the tool found, and where, to the image's builder.")],
         builder: &[
             "Close the list with the 8 bytes 00 00 00 00 08 00 00 00 inside OsSinitData's size.",
             "Count type and size in every element's size. In heap elements the type comes first, in policy elements the size.",
@@ -300,7 +323,7 @@ pub static TEXTS: [Text; 30] = [
             "The image is over 16 MiB.",
             "The loader did not fill in OsSinitData.",
         ],
-        technician: &["Nothing at the rack repairs this. If MLE Size is 0, the loader did not get far enough: look at its log."],
+        technician: &[concat!(not_at_the_rack!(), ". If MLE Size is 0, the loader did not get far enough: look at its log.")],
         builder: &["Round MLE Size up to whole pages and map them; keep the measured image at or under 4,096 pages."],
     },
     Text {
@@ -324,7 +347,7 @@ pub static TEXTS: [Text; 30] = [
             "The pointer table's entries carry flags such as writable or user (bits 1, 2), which only directories and page tables may have.",
             "The table base points to something that is no table.",
         ],
-        technician: &["Nothing at the rack repairs this; the tables are made by the boot loader. Hand entry and value to the image's builder."],
+        technician: &[concat!(not_at_the_rack!(), "; the tables are made by the boot loader. Hand entry and value to the image's builder.")],
         builder: &[
             "Build PAE tables of 4 KiB pages only; in the four pointer entries set the present bit and the address and nothing else.",
             "Leave out the no-execute bit; put the pointer table on a page of its own.",
@@ -357,7 +380,7 @@ pub static TEXTS: [Text; 30] = [
             "The loader placed the tables behind the image, or the page tables before a directory.",
             "Pages were allocated from the top down, or one page is mapped twice.",
         ],
-        technician: &["Nothing at the rack repairs this; it is the order in which the loader placed tables and pages. Hand both addresses on."],
+        technician: &[concat!(not_at_the_rack!(), "; it is the order in which the loader placed tables and pages. Hand both addresses on.")],
         builder: &[
             "Lay out rising: pointer table, directories, page tables, then the pages in linear order.",
             "Map no page twice.",
@@ -386,7 +409,7 @@ pub static TEXTS: [Text; 30] = [
         meaning: "The tables take a seventeenth page, the pointer table and the directories counted.",
         rule: "Pointer table, directories and page tables together are at most 16 pages; the entry that names the seventeenth is refused.",
         causes: &["The image is spread over many directories or page tables, most of them nearly empty.", "Tables from something else are mapped too."],
-        technician: &["Nothing at the rack repairs this. Hand it to the image's builder."],
+        technician: &[concat!(not_at_the_rack!(), ". Hand it to the image's builder.")],
         builder: &[
             "4,096 pages need 8 page tables, or 9 where they begin in the middle of one, a directory (or two) and the pointer table. Map only \
              the image, and from one linear address on.",
@@ -402,7 +425,7 @@ pub static TEXTS: [Text; 30] = [
             "The loader left out pages, for instance between text and data.",
             "A page table ends before its entry 511 although the next one has pages, or the next one does not begin at entry 0.",
         ],
-        technician: &["Nothing at the rack repairs this. Hand entry and linear address to the image's builder."],
+        technician: &[concat!(not_at_the_rack!(), ". Hand entry and linear address to the image's builder.")],
         builder: &["Map the image as one piece of linear memory; fill holes between its sections with pages of zeros, which are then measured."],
     },
     Text {
@@ -488,8 +511,11 @@ pub static TEXTS: [Text; 30] = [
         number: 24,
         name: "not production",
         meaning: "The SINIT module is not production worthy (a debug or pre-production module), and the policy record does not allow that.",
-        rule: "Module flags, 16 bits at 14: bit 14 (pre-production) or bit 15 (debug-signed) is set, and control bit 1 (mask 2) of the record, 32 \
-            bits at 22, is clear. It holds under ANY too.",
+        rule: concat!(
+            "Module flags, 16 bits at 14: bit 14 (pre-production) or bit 15 (debug-signed) is set, and control bit 1 (mask 2) of the record, 32 \
+             bits at 22, is clear. ",
+            under_any!()
+        ),
         causes: &["A debug or pre-production module from a test lab is in the store."],
         technician: &["Replace the module by the vendor's production module. Do not loosen the policy to get the host up."],
         builder: &[
@@ -505,7 +531,10 @@ pub static TEXTS: [Text; 30] = [
         number: 25,
         name: "module version",
         meaning: "The SINIT module's AcmVersion is below the policy record's SINITMinVersion.",
-        rule: "AcmVersion, 8 bits at E + 36 in the module, is at least SINITMinVersion, 8 bits at 5 in the record. It holds under ANY too.",
+        rule: concat!(
+            "AcmVersion, 8 bits at E + 36 in the module, is at least SINITMinVersion, 8 bits at 5 in the record. ",
+            under_any!()
+        ),
         causes: &["The policy was raised after a security update, and the image still carries the old module."],
         technician: &["Look whether the store has a newer SINIT module for this chipset; the policy asks for the version shown."],
         builder: &["Ship a module with at least this AcmVersion, or lower SINITMinVersion in the record if it was raised by mistake."],
@@ -589,7 +618,7 @@ pub static TEXTS: [Text; 30] = [
             "The image was updated and the policy was not: its digest is in no element.",
             "tboot's tools write `custom` elements with type 0x13, not 3. Type 0x13 is not judged, so a list that holds one does not permit, even \
              if another element of it names the image.",
-            "The list is signed. Signed lists are read and measured, but do not permit yet.",
+            concat!("The list is signed. Signed lists ", signed_lists!(), "."),
             "The list holds a platform configuration element (0x11), which this check does not judge.",
             "The list holds an STM element (0x14), and no STM image was handed over: the host has no STM, or `--stm` was left out, or a capture was \
              checked, which has none.",

@@ -13,6 +13,7 @@ use std::ffi::{OsStr, OsString};
 use std::fs::{self, File};
 use std::os::unix::ffi::{OsStrExt, OsStringExt};
 use std::path::Path;
+use std::process::Command;
 use tool::*;
 
 const PERMITTED: &str = "00-any-example.cap";
@@ -96,6 +97,26 @@ fn standard_input_is_a_file_everywhere() {
     assert!(twice.err.contains("--window, --heap are all -"), "{}", twice.err);
 }
 
+/// Standard input or output that is closed is no file without bytes and no place to write to, as /dev/null is.
+#[test]
+fn a_closed_stream_is_no_file() {
+    let folder = folder("a_closed_stream_is_no_file");
+    let words = written(&folder, &image(&Shape::default()));
+    let (parts, of_input) = (words.join(" "), words[2..].join(" "));
+    let said = |script: &str| ran(Command::new("sh").args(["-c", script, "sh", TOOL]).output().expect("a shell runs"));
+    for command in ["check --capture -", "capture show -", "policy -", &format!("check {of_input} --window -")] {
+        let ran = said(&format!("\"$1\" {command} <&-"));
+        assert_eq!((ran.status, ran.out.as_str()), (MISUSE, ""), "{command}");
+        assert!(ran.err.contains("cannot read standard input for the ") && ran.err.contains(": it is closed\n"), "{}", ran.err);
+        assert_eq!(said(&format!("\"$1\" {command} </dev/null")).status, REFUSED, "{command}");
+    }
+    let make = format!("\"$1\" capture make {parts} --output -");
+    let ran = said(&format!("{make} >&-"));
+    assert_eq!(ran.status, MISUSE);
+    assert!(ran.err.contains("cannot write to standard output: it is closed\n"), "{}", ran.err);
+    assert_eq!(said(&format!("{make} >/dev/null <&-")).status, OK, "what is not read may be closed");
+}
+
 #[test]
 fn a_capture_to_standard_output() {
     let folder = folder("a_capture_to_standard_output");
@@ -124,6 +145,12 @@ fn two_dashes_end_the_flags() {
     }
     let ran = run(&["check", "--", "--capture"]);
     assert!(ran.status == MISUSE && ran.err.contains("'--capture' stands alone"), "{}", ran.err);
+    // Before a command there are no flags that it could end, and the help does not say so.
+    for words in [&["--", "check"][..], &["capture", "--", "show"]] {
+        assert_eq!(run(words).status, MISUSE, "{words:?}");
+    }
+    let help = run(&["--help"]).out.split_whitespace().collect::<Vec<_>>().join(" ");
+    assert!(help.contains("Behind the command (of captures behind make or show) -- ends its flags."), "{help}");
 }
 
 /// A name with a control sequence, a line end, a quote and bytes that are no text.
@@ -144,20 +171,49 @@ fn names_of_any_bytes() {
     flag.extend_from_slice(NAME);
     let flag = OsString::from_vec(flag);
     let name = path.as_os_str();
-    let calls: [&[&OsStr]; 6] = [
+    let calls: [&[&OsStr]; 7] = [
         &[OsStr::new("check"), OsStr::new("--capture"), name],
         &[OsStr::new("check"), name],
         &[OsStr::new("check"), &flag],
         &[OsStr::new("policy"), name],
         &[OsStr::new("refusals"), name],
+        &[OsStr::new("capture"), name],
         &[name],
     ];
     for words in calls {
         let ran = ran(tool().args(words).output().expect("the tool runs"));
         assert_eq!((ran.status, ran.out.as_str()), (MISUSE, ""), "{words:?}");
-        assert!(!ran.err.chars().any(|c| c.is_control() && c != '\n'), "{words:?}: {:?}", ran.err);
-        assert_eq!(ran.err.lines().count(), 2, "{words:?}: {:?}", ran.err);
+        assert!(plain(&ran.err, 2), "{words:?}: {:?}", ran.err);
     }
+}
+
+/// Whether a text has no control character but the ends of its lines, of which there are so many.
+fn plain(text: &str, lines: usize) -> bool {
+    text.lines().count() == lines && !text.chars().any(|c| c.is_control() && c != '\n')
+}
+
+/// All that `capture make` says of a file's name.
+#[test]
+fn the_name_of_a_capture_that_is_made() {
+    let folder = folder("the_name_of_a_capture");
+    let words = written(&folder, &image(&Shape::default()));
+    let path = folder.join(OsStr::from_bytes(NAME));
+    let words: Vec<&OsStr> = ["capture", "make"]
+        .into_iter()
+        .map(OsStr::new)
+        .chain(words.iter().map(OsStr::new))
+        .chain([OsStr::new("--output")])
+        .collect();
+    let make = |script: &str, path: &Path| ran(in_bash(script, &[&words[..], &[path.as_os_str()]].concat()));
+    let made = make("exec \"$0\" \"$@\"", &path);
+    assert!(made.status == OK && made.out.starts_with("wrote ") && plain(&made.out, 2), "{:?}", made.out);
+    let there = make("exec \"$0\" \"$@\"", &path);
+    assert!(there.status == MISUSE && there.err.contains(" is there already; ") && plain(&there.err, 2), "{:?}", there.err);
+    let within = make("exec \"$0\" \"$@\"", &path.join("made.cap"));
+    assert!(within.status == MISUSE && within.err.contains("cannot write '") && plain(&within.err, 2), "{:?}", within.err);
+    fs::remove_file(&path).expect("the capture goes");
+    let unsaid = make("exec \"$0\" \"$@\" > /dev/full", &path);
+    assert!(unsaid.status == MISUSE && unsaid.err.contains("' was written, but ") && plain(&unsaid.err, 2), "{:?}", unsaid.err);
 }
 
 #[test]

@@ -86,6 +86,19 @@ fn one_is_not_many() {
     }
 }
 
+/// The digests of an element that they do not fill.
+#[test]
+fn how_many_bytes_digests_make() {
+    for (count, body, expected) in [
+        (0, &[0; 32][..], "0 digests, which make 18 bytes with what stands before"),
+        (1, &[], "1 digest, which makes 50 bytes with what stands before"),
+        (2, &[0; 32], "2 digests, which make 82 bytes with what stands before"),
+    ] {
+        let (file, _) = policy_file(&[list(&[element(0x10, &launch_body(0, 0x000b, count, body))])]);
+        assert_eq!(finding::find_in_policy(27, &file).map(|finding| finding.found).as_deref(), Some(expected));
+    }
+}
+
 /// What is found for 22 and 23, by the field; each has a line for who stands at the rack.
 #[test]
 fn every_field_of_22_and_23_has_a_line_for_the_rack() {

@@ -96,8 +96,15 @@ fn commands_of_the_tool_are_there() {
 }
 
 /// All that is said of a number.
-fn sentences(text: &'static Text) -> impl Iterator<Item = &'static str> {
+fn points(text: &'static Text) -> impl Iterator<Item = &'static str> {
     [text.meaning, text.rule].into_iter().chain([text.causes, text.technician, text.builder].into_iter().flatten().copied())
+}
+
+/// The sentences and the parts of sentences of a text; of a few words alone anything may be made.
+fn sentences(text: &str) -> Vec<String> {
+    let text = words(text).replace(';', ".");
+    let all = text.split(". ").map(|sentence| sentence.trim_end_matches('.').to_string());
+    all.filter(|sentence| sentence.split(' ').count() > 4).collect()
 }
 
 fn sources(folder: &Path, found: &mut Vec<(String, String)>) {
@@ -119,14 +126,25 @@ fn words(text: &str) -> String {
 #[test]
 fn no_text_of_a_refusal_is_written_twice() {
     let mut seen = HashSet::new();
-    TEXTS.iter().flat_map(sentences).for_each(|sentence| assert!(seen.insert(sentence), "twice: {sentence}"));
+    TEXTS.iter().flat_map(points).for_each(|point| assert!(seen.insert(point), "twice: {point}"));
     let mut found = Vec::new();
     sources(&top().join("rust/bleiwurzel/src"), &mut found);
     assert!(found.len() > 20, "only {} sources", found.len());
-    for (path, source) in found.iter().filter(|(path, _)| !path.ends_with("src/refusals.rs")) {
-        let again = seen.iter().find(|sentence| source.contains(&words(sentence)));
-        assert_eq!(again, None, "{path} has it again");
-    }
+    // What a macro puts together stands once in the sources, however often it is said.
+    let sentences: HashSet<String> = seen.into_iter().flat_map(sentences).collect();
+    let again = |sentence: &String| found.iter().map(|(_, source)| source.matches(sentence).count()).sum::<usize>() > 1;
+    let again: Vec<String> = sentences.into_iter().filter(again).collect();
+    assert!(again.is_empty(), "written more than once: {again:#?}");
+}
+
+/// Of signed lists the page, the reason for one list and README say the same.
+#[test]
+fn what_is_said_of_signed_lists() {
+    let cause = text(29).expect("a text").causes.iter().find_map(|cause| cause.strip_prefix("The list is signed. Signed lists "));
+    let said = cause.expect("a cause").trim_end_matches('.');
+    let why = bleiwurzel::policy::hindrance(true, std::iter::empty()).expect("a reason");
+    assert_eq!(why, format!("it is signed, and signed lists {said}"));
+    assert!(read("README.md").contains(&format!("| signed policy lists | {said} |")), "README.md does not say: {said}");
 }
 
 #[test]

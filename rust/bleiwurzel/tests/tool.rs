@@ -6,9 +6,11 @@ mod json;
 #[path = "common/tool.rs"]
 mod tool;
 
-use bleiwurzel::{answer_capture, finding, sha256, MOST_HEAP, MOST_PAGES, MOST_STM, MOST_WINDOW};
+use bleiwurzel::{answer_capture, capture, finding, policy, sha256};
+use bleiwurzel::{Parts, Platform, MOST_HEAP, MOST_PAGES, MOST_STM, MOST_WINDOW};
 use common::*;
 use json::is_json;
+use std::time::Instant;
 use tool::*;
 
 #[test]
@@ -240,6 +242,11 @@ fn captures_made_and_shown() {
     assert_eq!(ran.status, OK, "what is shown is a platform file: {}", ran.err);
     let json = run(&["capture", "show", &output, "--json"]);
     assert!(is_json(&json.out) && json.out.contains("\"window_base\": \"0x100000\""), "{}", json.out);
+    let parts = Parts { window: &[1], heap: &[2, 3], sinit: &[], record: &[], stm: &[] };
+    let small = folder.join("small.cap");
+    std::fs::write(&small, capture::make(&parts, &Platform::default()).expect("a capture")).expect("a small capture");
+    let shown = run(&["capture", "show", &small.to_string_lossy()]).out;
+    assert!(shown.contains(" 1 byte at file offset 75\n") && shown.contains(" 2 bytes at file offset 76\n"), "{shown}");
     let ran = run(&["capture", "show", &stored("30-74-bytes.cap")]);
     assert_eq!(ran.status, REFUSED);
     assert!(ran.out.starts_with("refused 30, capture\n") && ran.out.contains("  found     74 bytes\n"), "{}", ran.out);
@@ -281,8 +288,34 @@ fn policy_files() {
     assert!(ran.status == REFUSED && ran.out.starts_with("refused 26, policy place\n"), "{}", ran.out);
     let record = folder.join("record.bin");
     std::fs::write(&record, image(&Shape::default()).record).expect("a record");
+    let hint = "it looks like a policy record (70 bytes, version 3): hand it to bleiwurzel check as --policy-record";
     let ran = run(&["policy", &record.to_string_lossy()]);
-    assert!(ran.status == REFUSED && ran.out.contains("looks like a policy record"), "{}", ran.out);
+    let said = ran.out.split_whitespace().collect::<Vec<_>>().join(" ");
+    assert!(ran.status == REFUSED && said.contains(hint), "{}", ran.out);
+    let json = run(&["policy", "--json", &record.to_string_lossy()]).out;
+    assert!(is_json(&json) && json.contains(&format!("\"notes\": [\"{hint}\"]")), "{json}");
+}
+
+/// Showing the most elements that a policy file can have takes far less time than asking for each by its number, which reads the file anew
+/// for each; the two differ more than thirtyfold, so that another program on the machine does not matter.
+#[test]
+fn a_policy_file_is_shown_in_one_walk() {
+    let elements = (policy::MOST - policy::FIRST_LIST - 8) / 12;
+    let (file, _) = policy_file(&[list(&vec![element(3, b""); elements])]);
+    let path = folder("in_one_walk").join("policy.data").to_string_lossy().into_owned();
+    std::fs::write(&path, &file).expect("a policy file");
+    let began = Instant::now();
+    assert_eq!((0..).map_while(|j| policy::element(&file, 0, j)).count(), elements);
+    let by_number = began.elapsed();
+    for words in [&["policy", &path][..], &["policy", &path, "--json"]] {
+        let shown = |_| {
+            let began = Instant::now();
+            assert_eq!(run(words).status, OK);
+            began.elapsed()
+        };
+        let shown = (0..5).map(shown).min().expect("a time");
+        assert!(shown < by_number / 3, "{words:?}: shown {shown:?}, by number {by_number:?}");
+    }
 }
 
 /// The types that tboot's tools write have tboot's names.
@@ -338,7 +371,7 @@ fn help_on_every_level() {
 #[test]
 fn misuse_says_what_to_do() {
     let example = stored("00-any-example.cap");
-    let cases: [(&[&str], &str); 18] = [
+    let cases: [(&[&str], &str); 22] = [
         (&[], "a command is missing"),
         (&["chekc"], "there is no command 'chekc'"),
         (&["check"], "numbers of the platform are missing"),
@@ -350,6 +383,10 @@ fn misuse_says_what_to_do() {
         (&["check", "--capture", &example, "--stm", "s"], "a capture is checked without an STM image"),
         (&["check", "--capture", &example, "--capture", &example], "given twice"),
         (&["check", "--windw", "x"], "has no flag --windw"),
+        (&["check", "--json=1"], "--json takes no value"),
+        (&["check", "--help=1"], "--help takes no value"),
+        (&["policy", "-h="], "--help takes no value"),
+        (&["capture", "show", "--help=x"], "--help takes no value"),
         (&["check", "--vendor", "0x18086"], "--vendor: '0x18086' does not fit into 16 bits"),
         (&["check", "--heap-base", "30000h"], "--heap-base: '30000h' is no number"),
         (&["policy"], "the policy file is missing"),

@@ -26,9 +26,7 @@ pub fn parse(words: Vec<OsString>, help: &'static str, valued: &[&str], plain: &
             continue;
         }
         let (name, joined) = split(word);
-        if name == "-h" || name == "--help" {
-            args.plain.push("--help".to_string());
-        } else if plain.contains(&name.as_str()) {
+        if name == HELP || plain.contains(&name.as_str()) {
             if joined.is_some() {
                 return misuse(help, format!("{name} takes no value; leave out what follows ="));
             }
@@ -51,11 +49,14 @@ pub fn parse(words: Vec<OsString>, help: &'static str, valued: &[&str], plain: &
     Ok(args)
 }
 
-/// The name of a flag, and the value that is joined to it by `=`.
+/// The name of a flag, of `-h` the long one, and the value that is joined to it by `=`.
 fn split(word: OsString) -> (String, Option<OsString>) {
     let bytes = word.as_bytes();
     let end = bytes.iter().position(|byte| *byte == b'=');
-    let name = String::from_utf8_lossy(&bytes[..end.unwrap_or(bytes.len())]).into_owned();
+    let name = match &bytes[..end.unwrap_or(bytes.len())] {
+        b"-h" => HELP.to_string(),
+        name => String::from_utf8_lossy(name).into_owned(),
+    };
     (name, end.map(|end| OsString::from_vec(bytes[end + 1..].to_vec())))
 }
 
@@ -106,3 +107,5 @@ impl Args {
 
 /// The flag whose file is written.
 pub const OUTPUT: &str = "--output";
+/// The flag that every command has.
+pub const HELP: &str = "--help";

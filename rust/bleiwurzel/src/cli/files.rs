@@ -1,7 +1,7 @@
 //! Files are read whole, up to a limit and one byte more, which is enough for the check to see that they are too long. The name `-` is
 //! standard input.
 
-use super::{misuse, names, Misuse};
+use super::{misuse, names, streams, Misuse};
 use bleiwurzel::finding::{Finding, Length};
 use std::ffi::OsStr;
 use std::fs::File;
@@ -42,6 +42,7 @@ pub fn read(path: &OsStr, limit: u64, what: &str, help: &'static str) -> Result<
 /// A file for reading, or standard input.
 pub fn open(path: &OsStr) -> std::io::Result<Box<dyn Read>> {
     if path == STANDARD {
+        streams::need_open(streams::INPUT)?;
         return Ok(Box::new(std::io::stdin().lock()));
     }
     Ok(Box::new(File::open(path)?))

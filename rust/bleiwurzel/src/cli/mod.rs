@@ -13,12 +13,12 @@ mod policy;
 mod refusals;
 mod report;
 mod save;
+mod streams;
 mod wrap;
 
 use std::ffi::OsString;
 use std::io::{self, ErrorKind, Write};
 use std::panic::{self, UnwindSafe};
-use std::process::ExitCode;
 
 /// Permitted, accepted, shown or written. Of `check` it means permitted and nothing else.
 pub const YES: u8 = 0;
@@ -44,17 +44,14 @@ pub fn misuse<T>(help: &'static str, message: impl Into<String>) -> Result<T, Mi
     Err(Misuse { message: message.into(), help })
 }
 
-pub fn run(words: Vec<OsString>) -> ExitCode {
-    ExitCode::from(caught(|| answered(words)))
+/// Says what a command says, and gives the exit status. A fault of this program is no answer either; it has not the status that Rust gives,
+/// which no help speaks of.
+pub fn run(command: impl FnOnce() -> Result<Said, Misuse> + UnwindSafe) -> u8 {
+    panic::catch_unwind(|| answered(command())).unwrap_or(MISUSE)
 }
 
-/// A fault of this program is no answer either; it has not the status that Rust gives, which no help speaks of.
-fn caught(work: impl FnOnce() -> u8 + UnwindSafe) -> u8 {
-    panic::catch_unwind(work).unwrap_or(MISUSE)
-}
-
-fn answered(words: Vec<OsString>) -> u8 {
-    match command(words) {
+fn answered(answer: Result<Said, Misuse>) -> u8 {
+    match answer {
         Ok(said) => print(&said),
         Err(misuse) => {
             complain(&format!("{}\nMore: {} --help", misuse.message, misuse.help));
@@ -88,7 +85,8 @@ pub fn say(text: &str) -> io::Result<()> {
     }
 }
 
-fn command(mut words: Vec<OsString>) -> Result<Said, Misuse> {
+/// The command that these words ask for.
+pub fn command(mut words: Vec<OsString>) -> Result<Said, Misuse> {
     if words.is_empty() {
         return misuse("bleiwurzel", "a command is missing: check, policy, capture or refusals");
     }
@@ -113,7 +111,8 @@ mod tests {
 
     #[test]
     fn a_fault_of_the_program_is_no_answer() {
-        assert_eq!([YES, NO, MISUSE].map(|status| caught(move || status)), [YES, NO, MISUSE]);
-        assert_eq!(caught(|| panic!("as it should, to test what becomes of it")), MISUSE);
+        let said = |status| run(move || Ok(Said { text: String::new(), status }));
+        assert_eq!([YES, NO, MISUSE].map(said), [YES, NO, MISUSE]);
+        assert_eq!(run(|| panic!("as it should, to test what becomes of it")), MISUSE);
     }
 }

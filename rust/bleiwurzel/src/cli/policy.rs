@@ -20,20 +20,23 @@ pub fn run(words: Vec<OsString>) -> Result<Said, Misuse> {
     Ok(match policy::read(&file.bytes) {
         Ok(_) => Said { text: shown(&file.bytes, json), status: YES },
         Err(refusal) => {
-            let found = finding::find_in_policy(refusal.number, &file.bytes).map(|found| file.or_more(found));
-            let mut said = report::refused(refusal, found.as_ref(), HELP, json);
-            if !json && is_record(&file.bytes) {
-                said.text.push_str(&format!(
-                    "\nThis looks like a policy record ({RECORD_LENGTH} bytes, version 3): hand it to bleiwurzel check as --policy-record.\n",
-                ));
+            let mut found = finding::find_in_policy(refusal.number, &file.bytes).map(|found| file.or_more(found));
+            if let Some(found) = &mut found {
+                found.notes.extend(record_hint(&file.bytes));
             }
-            said
+            report::refused(refusal, found.as_ref(), HELP, json)
         }
     })
 }
 
-fn is_record(file: &[u8]) -> bool {
-    file.len() == RECORD_LENGTH && file[1] == 3
+/// What to do with a file that looks like a policy record.
+fn record_hint(file: &[u8]) -> Option<String> {
+    let record = file.len() == RECORD_LENGTH && file[1] == 3;
+    record.then(|| {
+        format!(
+            "it looks like a policy record ({RECORD_LENGTH} bytes, version 3): hand it to bleiwurzel check as --policy-record"
+        )
+    })
 }
 
 fn shown(file: &[u8], json: bool) -> String {

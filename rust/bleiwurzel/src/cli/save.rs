@@ -1,7 +1,7 @@
 //! A new file is written under a temporary name and takes its own when it is whole, so that nothing half written ever has that name. A file
 //! that is there already is kept. The name `-` is standard output.
 
-use super::{files, misuse, names, Misuse};
+use super::{files, misuse, names, streams, Misuse};
 use std::ffi::OsStr;
 use std::fs::{self, File, OpenOptions};
 use std::io::{self, ErrorKind, Write};
@@ -27,6 +27,7 @@ pub fn write(path: &OsStr, bytes: &[u8], help: &'static str) -> Result<(), Misus
 }
 
 fn to_output(bytes: &[u8]) -> io::Result<()> {
+    streams::need_open(streams::OUTPUT)?;
     let mut out = io::stdout().lock();
     out.write_all(bytes)?;
     out.flush()

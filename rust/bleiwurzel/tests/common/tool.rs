@@ -17,8 +17,11 @@ pub struct Ran {
     pub err: String,
 }
 
+/// The program itself.
+pub const TOOL: &str = env!("CARGO_BIN_EXE_bleiwurzel");
+
 pub fn tool() -> Command {
-    Command::new(env!("CARGO_BIN_EXE_bleiwurzel"))
+    Command::new(TOOL)
 }
 
 pub fn ran(output: Output) -> Ran {
@@ -41,7 +44,7 @@ pub fn run_on(input: &[u8], words: &[&str]) -> Output {
 
 /// A script for bash, in which `$0` is the tool and `$@` are the words.
 pub fn in_bash<T: AsRef<OsStr>>(script: &str, words: &[T]) -> Output {
-    Command::new("bash").args(["-c", script, env!("CARGO_BIN_EXE_bleiwurzel")]).args(words).output().expect("bash runs")
+    Command::new("bash").args(["-c", script, TOOL]).args(words).output().expect("bash runs")
 }
 
 /// A folder of its own for each test.

@@ -2,8 +2,9 @@
 //! page list and before the digest, and permitted. Plain Rust's digest of the pages, in parts of a page, stands beside them. All take turns in one
 //! process.
 //!
-//! With `--at-most R` it fails where the refused check takes more than R of the digest's time, or the permitted one more than 1 + R of it. For
-//! that the median of the ratios of neighbouring runs counts, which another program on the machine changes least.
+//! With `--at-most R` it fails where the refused check takes more than R of the digest's time, or the permitted one more than half as much again
+//! as the digest, a loose bound, so that another program on the machine does not break it. The median of the ratios of neighbouring runs counts,
+//! which such a program changes least.
 
 #[path = "../../bleiwurzel/tests/common/mod.rs"]
 mod common;
@@ -14,6 +15,7 @@ use std::time::{Duration, Instant};
 
 const RUNS: usize = 25;
 const HEADER_FAULT: u32 = 22;
+const MOST_WHOLE: f64 = 1.5;
 
 fn timed<T>(work: impl FnOnce() -> T) -> (Duration, T) {
     let start = Instant::now();
@@ -75,8 +77,8 @@ fn main() {
         "{MOST_PAGES} pages: digest {hashed:.1} µs; the check up to the digest {early:.1} µs, {before:.5} of it; the whole check {all:.1} µs, \
          {whole:.3} of it; plain Rust's digest {plain:.1} µs (best of {RUNS} runs each; ratios are medians of neighbours)"
     );
-    if before > limit || whole > 1.0 + limit {
-        eprintln!("over {limit} of the digest's time beside the digest");
+    if limit.is_finite() && (before > limit || whole > MOST_WHOLE) {
+        eprintln!("over {limit} of the digest's time before the digest, or over {MOST_WHOLE} in all");
         std::process::exit(1);
     }
 }

@@ -33,6 +33,14 @@ reorder : (f n a : Bool) → (f || (n || a)) ≡ ((n || f) || a)
 reorder true n a = rw (or-true n)
 reorder false n a = rw (or-false n)
 
+-- the first element of those that are left, by the answer for it
+module _ {Kept : List Element → Type 0} (t : List ℕ) (at : ℕ) (e : ElementAnswer) (front : Front kinds.element t at Kept e) where
+  pub fits : Counted e
+  fits = rw (front .shown) (counted-is at (front .first) (front .valid .0))
+
+  tested : (test : Element → Bool) (n : Bool) → n ≡ testSeen test (seenElement t e) → n ≡ test (front .first)
+  tested test n en = en ∙ ap (testSeen test) (ap (seenElement t) (front .shown) ∙ element-seen t at (front .first) (front .others) (front .valid) (front .stand))
+
 module _ (k : Criteria) (es : List Element) where
   pub judging-start : Judging k es false false es
   judging-start = record { same = refl; same-stm = refl }
@@ -45,9 +53,6 @@ module _ (k : Criteria) (es : List Element) where
     abbrev x : Element
     x = front .first
 
-    pub fits : Counted e
-    fits = rw (front .shown) (counted-is at x (front .valid .0))
-
     module _ (j : Bool) (ej : j ≡ judgedAnswer e) where
       j-is : j ≡ judged x
       j-is = ej ∙ ap judgedAnswer (front .shown) ∙ judged-is at x (front .valid .0)
@@ -58,7 +63,7 @@ module _ (k : Criteria) (es : List Element) where
       pub judging-step : j ≡ true → (n : Bool) → n ≡ testSeen (names k) (seenElement t e) → (found′ : Bool) → found′ ≡ (n || found)
           → (m : Bool) → m ≡ isStmAnswer e → (stm′ : Bool) → stm′ ≡ (m || stm) → Judging k es found′ stm′ (front .others)
       judging-step h n en found′ ef m em stm′ es′ =
-          let n-is : n ≡ names k x = en ∙ ap (testSeen (names k)) (ap (seenElement t) (front .shown) ∙ element-seen t at x (front .others) (front .valid) (front .stand)) in
+          let n-is : n ≡ names k x = tested t at e front (names k) n en in
           let m-is : m ≡ isStm x = em ∙ ap isStmAnswer (front .shown) ∙ stm-is at x (front .valid .0) in
           record {
             same =
@@ -81,12 +86,9 @@ module _ (digest : List ℕ) (es : List Element) where
   naming-end h = sym (h .same)
 
   module _ (t : List ℕ) (at : ℕ) (e : ElementAnswer) (front : Front kinds.element t at (Naming digest es) e) where
-    pub stm-fits : Counted e
-    stm-fits = rw (front .shown) (counted-is at (front .first) (front .valid .0))
-
     module _ (n : Bool) (en : n ≡ testSeen (namesStm digest) (seenElement t e)) where
       n-is : n ≡ namesStm digest (front .first)
-      n-is = en ∙ ap (testSeen (namesStm digest)) (ap (seenElement t) (front .shown) ∙ element-seen t at (front .first) (front .others) (front .valid) (front .stand))
+      n-is = tested t at e front (namesStm digest) n en
 
       pub this-names : n ≡ true → true ≡ any (namesStm digest) es
       this-names h = sym (front .kept .same ∙ rw (sym n-is ∙ h))

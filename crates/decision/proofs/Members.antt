@@ -1,49 +1,18 @@
--- A test of every value of a list, of some value, and of the first value that passes, by the values' numbers.
+-- The first list that passes a test, by the lists' numbers.
 use Prim.Native.Nat.{ℕ, zero, suc, _+_, _<_}
 use mathlib.Core.Path.{_≡_, refl, sym, _∙_}
-use mathlib.Core.Logic.{_↔_, _⊎_, inl, inr, ⊎-elim}
-use mathlib.Core.Bool.{Bool, true, false, true≢false, and-eq-true-iff}
+use mathlib.Core.Logic.{_⊎_, inl, inr, ⊎-elim}
+use mathlib.Core.Bool.{Bool, true, false}
 use mathlib.Core.List.{List, [], _∷_}
 use mathlib.Core.Option.{some, none}
 use native.Mathlib.Omega.{arith}
 use lib.ListN.{length, getElem?}
 use Rattle.policy_grammar.specs.Grammar.{PolicyList}
 use Rattle.answer.specs.Answer.{noList}
-use Rattle.rules.specs.Tests.{every, any}
 use Rattle.decision.specs.Lists.{someFrom, lowestFrom}
-use Rattle.decision.specs.Meaning.{Member}
-use Rattle.rules.proofs.Tests.{or-exactly}
 
-module _ {A : Type 0} where
-  nothing : (a : A) → none ≡ some a → ⊥
-  nothing a e = let z : _≡_ {A = ℕ} 0 1 = cc in omega arith
-
-  module _ (test : A → Bool) (P : A → Type 0) (says : (a : A) → (test a ≡ true) ↔ P a) where
-    pub every-exactly : (xs : List A) → (every test xs ≡ true) ↔ ((j : ℕ) (a : A) → getElem? xs j ≡ some a → P a)
-    every-exactly [] = (λ e j a q. absurd (nothing a q), λ h. refl)
-    every-exactly (x ∷ xs) = (
-      λ e. (let p = and-eq-true-iff _ _ .0 e in at-each (says x .0 (p .0)) (every-exactly xs .0 (p .1))),
-      λ h. and-eq-true-iff _ _ .1 (says x .1 (h 0 x refl), every-exactly xs .1 (λ j. h (suc j))),
-    )
-      where
-        at-each : P x → ((j : ℕ) (a : A) → getElem? xs j ≡ some a → P a) → (j : ℕ) (a : A) → getElem? (x ∷ xs) j ≡ some a → P a
-        at-each p h zero a q = let i : x ≡ a = cc in rw i at p
-        at-each p h (suc j) a q = h j a q
-
-    pub any-exactly : (xs : List A) → (any test xs ≡ true) ↔ Member P xs
-    any-exactly [] = (λ e. absurd (true≢false (sym e)), λ m. absurd (nothing (m .value) (m .stands)))
-    any-exactly (x ∷ xs) =
-        let both = or-exactly (says x) (any-exactly xs) in (
-          λ e. ⊎-elim (λ p. record { place = 0; value = x; stands = refl; holds = p }) later (both .0 e),
-          λ m. both .1 (which (m .place) (m .value) (m .stands) (m .holds)),
-        )
-      where
-        later : Member P xs → Member P (x ∷ xs)
-        later m = record { place = suc (m .place); value = m .value; stands = m .stands; holds = m .holds }
-
-        which : (j : ℕ) (a : A) → getElem? (x ∷ xs) j ≡ some a → P a → P x ⊎ Member P xs
-        which zero a q p = let i : x ≡ a = cc in inl (rw i p)
-        which (suc j) a q p = inr (record { place = j; value = a; stands = q; holds = p })
+nothing : (l : PolicyList) → none ≡ some l → ⊥
+nothing l e = let z : _≡_ {A = ℕ} 0 1 = cc in omega arith
 
 -- A TEST OF A LIST AND ITS NUMBER, counted from i
 

@@ -1,18 +1,18 @@
 -- Whether an element names a digest, and whether it is judged, by the tests that lead to each answer.
 use Prim.Native.Nat.{ℕ, _≤_, _<_, _^_}
 use mathlib.Core.Path.{_≡_, refl, ap, sym, _∙_}
-use mathlib.Core.Bool.{Bool, true, false, cond, and-false, and-true, or-false}
+use mathlib.Core.Bool.{Bool, true, false, cond, and-false, and-true}
 use mathlib.Core.List.{List}
 use mathlib.Core.Option.{some}
-use borrow.Author.Tests.{eq-eqb, ne-eqb, le-leb, lt-leb}
+use borrow.Author.Tests.{ne-eqb, eqb-true, eqb-false, le-leb, lt-leb}
 use lib.Dec.{eqb}
 use lib.ListN.{drop}
 use Rattle.field.specs.Field.{same}
 use Rattle.policy_answers.specs.declared.ElementAnswer.{ElementAnswer}
 use Rattle.policy_answers.specs.declared.ElementAnswer.the-variants as elements
-use Rattle.policy_grammar.specs.Grammar.{Body, ValidBody, launchType, customType, stmType, Element, ValidElement, digestLength}
+use Rattle.policy_grammar.specs.Grammar.{Digests, ValidDigests, Launch, ValidLaunch, Body, ValidBody, launchType, customType, stmType, Element, ValidElement, digestLength}
 use Rattle.policy_grammar.specs.Grammar as Grammar
-use Rattle.policy_answers.specs.Answers.{elementShown}
+use Rattle.policy_answers.specs.Answers.{bodyShown, elementShown}
 use Rattle.policy_answers.specs.Parts.{partAt}
 use Rattle.policy_answers.specs.Seen.{pieces, seenDigests, seenElement}
 use Rattle.rules.specs.Tests.{any}
@@ -32,11 +32,12 @@ module _ (digest : List ℕ) (a n : ℕ) (b : List ℕ) where
 pub other-case : (test : Element → Bool) (t : List ℕ) {e v : ElementAnswer} → e ≡ v → false ≡ testSeen test (seenElement t v) → false ≡ testSeen test (seenElement t e)
 other-case test t q h = rw q h
 
+-- a count of digests, where what is answered is known
+pub count-fits : {e v : ElementAnswer} → e ≡ v → Counted e → Counted v
+count-fits q h = rw (← q) h
+
 -- a launch element
 module _ (k : Criteria) (t : List ℕ) (e : ElementAnswer) (start size control m v a n : ℕ) (q : e ≡ elements.Launch start size control m v a n) where
-  pub count-fits : Counted e → n < 2 ^ 16
-  count-fits h = rw q at h
-
   pub later-version : k .acmVersion < m → false ≡ testSeen (names k) (seenElement t e)
   unfolding names
   later-version l = rw (q, lt-leb m (k .acmVersion) l) (sym (and-false (digestsName (k .digest) (seenDigests a n (drop 6 (drop 12 (partAt t start size)))))))
@@ -47,66 +48,48 @@ module _ (k : Criteria) (t : List ℕ) (e : ElementAnswer) (start size control m
 
 -- an STM element
 module _ (digest t : List ℕ) (e : ElementAnswer) (start size control a n : ℕ) (q : e ≡ elements.Stm start size control a n) where
-  pub stm-count-fits : Counted e → n < 2 ^ 16
-  stm-count-fits h = rw q at h
-
   pub stm-names : (b : List ℕ) (r : Bool) → b ≡ drop 12 (partAt t start size) → r ≡ digestsName digest (seenDigests a n (drop 4 b)) → r ≡ testSeen (namesStm digest) (seenElement t e)
   unfolding namesStm
   stm-names b r body is = is ∙ rw (body, q)
 
--- THE ANSWER FOR AN ELEMENT THAT STANDS IN A STRING
+-- THE ANSWER FOR AN ELEMENT THAT STANDS IN A STRING, by its type
 
 module _ (at : ℕ) (x : Element) (v : ValidElement x) where
+  module _ (P : ElementAnswer → Type 0)
+      (launch : (b : Launch) → x .type ≡ launchType → ValidLaunch b → P (elements.Launch at (x .size) (x .control) (b .sinitMinVersion) (b .reserved) (b .digests .hashAlg) (b .digests .count)))
+      (stm : (d : Digests) → x .type ≡ stmType → ValidDigests d → P (elements.Stm at (x .size) (x .control) (d .hashAlg) (d .count)))
+      (custom : x .type ≡ customType → P (elements.Custom at (x .size) (x .control)))
+      (other : (x .type ≡ launchType → ⊥) → (x .type ≡ stmType → ⊥) → (x .type ≡ customType → ⊥) → P (elements.Unjudged at (x .size) (x .type) (x .control))) where
+    by-type : P (elementShown at (some x))
+    by-type = go (x .body) (v .body-valid)
+      where
+        on : (c : Bool) → eqb (x .type) customType ≡ c → (x .type ≡ launchType → ⊥) → (x .type ≡ stmType → ⊥)
+            → P (cond c (elements.Custom at (x .size) (x .control)) (elements.Unjudged at (x .size) (x .type) (x .control)))
+        on true e nl ns = custom (eqb-true (x .type) customType e)
+        on false e nl ns = other nl ns (eqb-false (x .type) customType e)
+
+        go : (b : Body) → ValidBody (x .type) b → P (bodyShown at (x .size) (x .type) (x .control) b)
+        go (Grammar.launch b) w = launch b (w .0) (w .1)
+        go (Grammar.stm d) w = stm d (w .0) (w .1)
+        go (Grammar.other b) w = on (eqb (x .type) customType) refl (w .0) (w .1)
+
   -- its type is judged exactly where the answer is that of a type that is judged
   pub judged-is : judgedAnswer (elementShown at (some x)) ≡ judged x
-  judged-is = go (x .body) refl (v .body-valid)
-    where
-      on : (c : Bool) → judgedAnswer (cond c (elements.Custom at (x .size) (x .control)) (elements.Unjudged at (x .size) (x .type) (x .control))) ≡ c
-      on true = refl
-      on false = refl
-
-      go : (b : Body) → x .body ≡ b → ValidBody (x .type) (x .body) → judgedAnswer (elementShown at (some x)) ≡ judged x
-      go (Grammar.launch b) i w =
-          let u : ValidBody (x .type) (Grammar.launch b) = rw i at w in
-          rw (i, eq-eqb (x .type) launchType (u .0))
-      go (Grammar.stm d) i w =
-          let u : ValidBody (x .type) (Grammar.stm d) = rw i at w in
-          rw (i, u .0)
-      go (Grammar.other b) i w =
-          let u : ValidBody (x .type) (Grammar.other b) = rw i at w in
-          rw (i, ne-eqb (x .type) launchType (u .0), ne-eqb (x .type) stmType (u .1)) (on (eqb (x .type) customType) ∙ sym (or-false (eqb (x .type) customType)))
+  judged-is =
+      by-type (λ (e : ElementAnswer). judgedAnswer e ≡ judged x)
+      (λ b e w. rw e)
+      (λ d e w. rw e)
+      (λ e. rw e)
+      (λ nl ns nc. rw (ne-eqb (x .type) launchType nl, ne-eqb (x .type) customType nc, ne-eqb (x .type) stmType ns))
 
   -- it is of type 0x14 exactly where the answer is that of an STM element
   pub stm-is : isStmAnswer (elementShown at (some x)) ≡ isStm x
-  stm-is = go (x .body) refl (v .body-valid)
-    where
-      on : (c : Bool) → isStmAnswer (cond c (elements.Custom at (x .size) (x .control)) (elements.Unjudged at (x .size) (x .type) (x .control))) ≡ false
-      on true = refl
-      on false = refl
-
-      go : (b : Body) → x .body ≡ b → ValidBody (x .type) (x .body) → isStmAnswer (elementShown at (some x)) ≡ isStm x
-      go (Grammar.launch b) i w =
-          let u : ValidBody (x .type) (Grammar.launch b) = rw i at w in
-          rw (i, u .0)
-      go (Grammar.stm d) i w =
-          let u : ValidBody (x .type) (Grammar.stm d) = rw i at w in
-          rw (i, eq-eqb (x .type) stmType (u .0))
-      go (Grammar.other b) i w =
-          let u : ValidBody (x .type) (Grammar.other b) = rw i at w in
-          rw (i, ne-eqb (x .type) stmType (u .1)) (on (eqb (x .type) customType))
+  stm-is =
+      by-type (λ (e : ElementAnswer). isStmAnswer e ≡ isStm x)
+      (λ b e w. rw e)
+      (λ d e w. rw e)
+      (λ e. rw e)
+      (λ nl ns nc. rw (ne-eqb (x .type) stmType ns))
 
   pub counted-is : Counted (elementShown at (some x))
-  counted-is = go (x .body) refl (v .body-valid)
-    where
-      on : (c : Bool) → Counted (cond c (elements.Custom at (x .size) (x .control)) (elements.Unjudged at (x .size) (x .type) (x .control)))
-      on true = tt
-      on false = tt
-
-      go : (b : Body) → x .body ≡ b → ValidBody (x .type) (x .body) → Counted (elementShown at (some x))
-      go (Grammar.launch b) i w =
-          let u : ValidBody (x .type) (Grammar.launch b) = rw i at w in
-          rw i (u .1 .digests-valid .count-fits)
-      go (Grammar.stm d) i w =
-          let u : ValidBody (x .type) (Grammar.stm d) = rw i at w in
-          rw i (u .1 .count-fits)
-      go (Grammar.other b) i w = rw i (on (eqb (x .type) customType))
+  counted-is = by-type Counted (λ b e w. w .digests-valid .count-fits) (λ d e w. w .count-fits) (λ e. tt) (λ nl ns nc. tt)

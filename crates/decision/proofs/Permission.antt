@@ -16,8 +16,8 @@ use Rattle.sha256.specs.Message.{sha256}
 use Rattle.rules.specs.Tests.{any}
 use Rattle.decision.specs.Lists.{Criteria, listsOf, unsigned, judged, digestsName, names, isStm, namesStm, stmNamed, permits, someFrom, somePermits, lowestFrom, lowestPermitting}
 use Rattle.decision.specs.Meaning.{DigestsName, Names, NamesStm, StmNamed, Permits, PermitsAt, SomePermits, Lowest, Reads, PermitsExactly, LowestExactly, BodyFree}
-use Rattle.rules.proofs.Tests.{eqb-exactly, leb-exactly, ltb-exactly, or-exactly, and-exactly, where-holds}
-use Rattle.decision.proofs.Members.{every-exactly, any-exactly, Reported, Unreported, lowest-is}
+use Rattle.rules.proofs.Tests.{eqb-exactly, leb-exactly, ltb-exactly, or-exactly, and-exactly, where-holds, every-exactly, any-exactly}
+use Rattle.decision.proofs.Members.{Reported, Unreported, lowest-is}
 use Rattle.field.proofs.Laws.{same-exactly}
 use Rattle.decision.proofs.Readings.{lists-exactly, few, lists-few}
 
@@ -75,8 +75,8 @@ list-exactly k i l =
     let holds-stm = any-exactly isStm (λ (e : Element). e .type ≡ stmType) (λ e. eqb-exactly _ _) es in
     let stm = where-holds (any isStm es) (stmNamed (k .stm) es) holds-stm (stm-exactly (k .stm) es) in
     let x = and-exactly (unsigned-exactly (l .signing)) (and-exactly (and-exactly all (any-exactly (names k) (Names k) (names-exactly k) es)) stm) in (
-      λ t. (let w = x .0 t in record { unsigned = w .0; judged = w .1 .0 .0; names = w .1 .0 .1; stm = w .1 .1 }),
-      λ p. x .1 (p .unsigned, ((p .judged, p .names), p .stm)),
+      λ t. (let w = x .0 t in record { unsigned = w .0; judged = w .1 .0 .0; names = w .1 .0 .1; namesStm = w .1 .1 }),
+      λ p. x .1 (p .unsigned, ((p .judged, p .names), p .namesStm)),
     )
 
 -- THE LISTS OF A READING: at most 8, so none has the number 255
@@ -156,5 +156,5 @@ reported-exactly file k b =
     (lowest-is (permits k) 0 (listsOf file))
 
 pub body-free : BodyFree
-unfolding names
-body-free k type size control size′ control′ b b′ = (refl, refl)
+unfolding names namesStm
+body-free k digest type size control size′ control′ b b′ = (refl, refl, refl, refl)

@@ -4,7 +4,7 @@ use mathlib.Core.Bool.{cond}
 use mathlib.Core.List.{List, [], _∷_}
 use lib.Dec.{eqb}
 use Rattle.rules.specs.Rules.{Rule, rule, answerBy}
-use Rattle.decision.specs.declared.MleCriteria.{MleCriteria}
+use Rattle.decision.specs.declared.LaunchCriteria.{LaunchCriteria}
 use Rattle.decision.specs.declared.RecordAnswer.{RecordAnswer}
 use Rattle.decision.specs.declared.RecordAnswer.the-variants as answers
 use Rattle.decision.specs.Record.{policyType, LIST, recordRules}
@@ -24,8 +24,8 @@ numberOf (answers.Refused n) = n
 unfoldable pub recordOf : List ℕ → ℕ → ℕ → RecordAnswer
 recordOf r flags acmVersion = answerBy answers.Refused (kindOf (policyType r)) (recordRules r flags acmVersion)
 
--- what a list is judged by: what it is judged by of the MLE and the module, and the STM image
-abbrev pub criteriaOf : MleCriteria → List ℕ → Criteria
+-- what a list is judged by: what it is judged by of the launch, and the STM image
+abbrev pub criteriaOf : LaunchCriteria → List ℕ → Criteria
 criteriaOf k stm = record { digest = k .digest; acmVersion = k .«acm_version»; stm = stm }
 
 -- rules 27 and 28

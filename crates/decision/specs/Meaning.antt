@@ -8,7 +8,7 @@ use mathlib.Core.List.{List, [], _∷_, flatMap}
 use mathlib.Core.Option.{some}
 use lib.ListN.{length, getElem?}
 use Rattle.field.specs.Number.{Bytes}
-use Rattle.rules.specs.Rules.{all, firstFailing}
+use Rattle.rules.specs.Rules.{all, firstFailing, Every, Some}
 use Rattle.rules.specs.Meaning.{Meaning, meaning, AllSay, FirstBroken}
 use Rattle.sha256.specs.Message.{sha256}
 use Rattle.policy_grammar.specs.Grammar.{Digests, Launch, launchType, customType, stmType, Element, PolicyList, Reading, Makes}
@@ -18,7 +18,7 @@ use Rattle.decision.specs.declared.RecordAnswer.the-variants as answers
 use Rattle.decision.specs.Record.{recordSize, versionHigh, knownVersion, hashAlg, sha256Alg, policyType, LIST, ANY, sinitMinVersion, control, policyHash, recordTests, worthyOrAllowed, versionReached, recordRules}
 use Rattle.decision.specs.Answers.{numberOf, recordOf, fileRules}
 use Rattle.answer.specs.Answer.{noList}
-use Rattle.decision.specs.Lists.{Criteria, filePlaced, ofGrammar, listsOf, measure, hashMatches, judged, names, somePermits, lowestPermitting}
+use Rattle.decision.specs.Lists.{Criteria, filePlaced, ofGrammar, listsOf, measure, hashMatches, judged, names, isStm, namesStm, somePermits, lowestPermitting}
 
 -- 23
 pub record Record (r : List ℕ) : Type 0 where
@@ -65,17 +65,10 @@ HashMatches reading r = sha256 (flatMap measure (reading .lists)) ≡ policyHash
 abbrev pub fileMeanings : List ℕ → List ℕ → List Meaning
 fileMeanings file r = meaning 27 (OfGrammar file) ∷ meaning 28 (SomeReading file (λ (reading : Reading). HashMatches reading r)) ∷ []
 
--- 29. A value of a list, by its number, of which something is so
-pub record Member {A : Type 0} (P : A → Type 0) (xs : List A) : Type 0 where
-  pub place : ℕ
-  pub value : A
-  pub stands : getElem? xs place ≡ some value
-  pub holds : P value
-
--- digests with HashAlg 0x000B have a digest among them
+-- 29. Digests with HashAlg 0x000B have a digest among them
 pub record DigestsName (digest : List ℕ) (d : Digests) : Type 0 where
   pub algorithm : d .hashAlg ≡ sha256Alg
-  pub named : Member (λ (x : List ℕ). digest ≡ x) (d .digests)
+  pub named : Some (λ (x : List ℕ). digest ≡ x) (d .digests)
 
 -- an element of type 0x10 names the digest and has a SINITMinVersion that AcmVersion reaches
 pub record Names (k : Criteria) (e : Element) : Type 0 where
@@ -93,16 +86,16 @@ pub record NamesStm (digest : List ℕ) (e : Element) : Type 0 where
 -- there is an STM image, and some 0x14 element names its digest
 pub record StmNamed (image : List ℕ) (es : List Element) : Type 0 where
   pub given : 0 < length image
-  pub named : Member (NamesStm (sha256 image)) es
+  pub named : Some (NamesStm (sha256 image)) es
 
 -- the list number i permits
 pub record Permits (k : Criteria) (i : ℕ) (l : PolicyList) : Type 0 where
   pub unsigned : l .signing ≡ Grammar.unsigned
-  pub judged : (j : ℕ) (e : Element) → getElem? (l .elements) j ≡ some e → (e .type ≡ launchType) ⊎ ((e .type ≡ customType) ⊎ (e .type ≡ stmType))
+  pub judged : Every (λ (e : Element). (e .type ≡ launchType) ⊎ ((e .type ≡ customType) ⊎ (e .type ≡ stmType))) (l .elements)
   -- one and the same element of type 0x10
-  pub names : Member (Names k) (l .elements)
+  pub names : Some (Names k) (l .elements)
   -- "A list that holds a 0x14 element permits only if .."
-  pub stm : Member (λ (e : Element). e .type ≡ stmType) (l .elements) → StmNamed (k .stm) (l .elements)
+  pub namesStm : Some (λ (e : Element). e .type ≡ stmType) (l .elements) → StmNamed (k .stm) (l .elements)
 
 -- the list number i of a reading permits
 pub record PermitsAt (reading : Reading) (k : Criteria) (i : ℕ) : Type 0 where
@@ -183,6 +176,8 @@ another size type control b = record { size = size; type = type; control = contr
 
 abbrev pub BodyFree : Type 0
 BodyFree =
-    (k : Criteria) (type size control size′ control′ : ℕ) (b b′ : List ℕ)
+    (k : Criteria) (digest : List ℕ) (type size control size′ control′ : ℕ) (b b′ : List ℕ)
     → (judged (another size type control b) ≡ judged (another size′ type control′ b′))
     × (names k (another size type control b) ≡ names k (another size′ type control′ b′))
+    × (isStm (another size type control b) ≡ isStm (another size′ type control′ b′))
+    × (namesStm digest (another size type control b) ≡ namesStm digest (another size′ type control′ b′))

@@ -1,6 +1,6 @@
 // The elements of a list: whether they are of types that are judged, and which digests they name.
 use crate::Judgement;
-use crate::MleCriteria;
+use crate::LaunchCriteria;
 use crate::SHA256_ALG;
 use policy_answers::ElementAnswer;
 use policy_answers::LAUNCH_DIGESTS;
@@ -49,7 +49,7 @@ fn digests_name(b: &[u8], start: usize, hash_alg: usize, count: usize, digest: &
 }
 
 // Whether an element of t names the digest of the pages. Its body is passed on as the part of t that it is.
-fn names(t: &[u8], e: ElementAnswer, k: MleCriteria) -> bool
+fn names(t: &[u8], e: ElementAnswer, k: LaunchCriteria) -> bool
     requires { ⌜ Counted e ⌝ }
     ensures { λ r. ⌜ ((stm : List ℕ) → r ≡ testSeen (spec.names (criteriaOf k stm)) (seenElement (now (t .entry)) e)) ⌝ }
 {
@@ -122,13 +122,13 @@ fn is_stm(e: ElementAnswer) -> bool
 }
 
 // What elements say that are all judged, by whether one names the digest of the pages and whether one is an STM element.
-fn judgement(found: bool, stm: bool) -> Judgement
-    ensures { λ r. ⌜ r ≡ judgementBy found stm ⌝ }
+fn judgement(named: bool, holds_stm: bool) -> Judgement
+    ensures { λ r. ⌜ r ≡ judgementBy named «holds_stm» ⌝ }
 {
-    if !found {
+    if !named {
         return Judgement::No;
     }
-    if stm {
+    if holds_stm {
         return Judgement::IfStmNamed;
     }
     Judgement::Yes
@@ -136,27 +136,27 @@ fn judgement(found: bool, stm: bool) -> Judgement
 
 // What the elements of t from `start` on say: all are of types that are judged, one of them names the digest of the pages, and whether one is an STM
 // element.
-pub(crate) fn elements_judged(t: &[u8], start: usize, k: MleCriteria) -> Judgement
+pub(crate) fn elements_judged(t: &[u8], start: usize, k: LaunchCriteria) -> Judgement
     requires { ⌜ ((es : List Element) × ElementsStand (now t) start es) ⌝ }
     ensures { λ r. ⌜ ((es : List Element) (stm : List ℕ) → ElementsStand (now (t .entry)) start es → r ≡ judgementOf (criteriaOf k stm) es) ⌝ }
 {
     let mut at = start;
-    let mut found = false;
-    let mut stm = false;
+    let mut named = false;
+    let mut holds_stm = false;
     while at < t.len() {
         let e = policy_reader::element_at(t, at);
         if !judged(e) {
             return Judgement::No;
         }
         if names(t, e, k) {
-            found = true;
+            named = true;
         }
         if is_stm(e) {
-            stm = true;
+            holds_stm = true;
         }
         at += policy_answers::element_size(e);
     }
-    judgement(found, stm)
+    judgement(named, holds_stm)
 }
 
 // Whether one of the elements of t from `start` on is an STM element that names a digest.

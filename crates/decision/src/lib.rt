@@ -18,8 +18,8 @@ pub enum RecordAnswer {
     Refused(u32),
 }
 
-// What a list is judged by of the MLE and the module: the digest of the pages, and AcmVersion. The STM image, which is lent, goes beside it.
-pub struct MleCriteria {
+// What a list is judged by of the launch: the digest of the pages, and AcmVersion of the module. The STM image, which is lent, goes beside it.
+pub struct LaunchCriteria {
     pub digest: [u8; 32],
     pub acm_version: u64,
 }
@@ -38,9 +38,9 @@ pub enum Judgement {
 }
 
 // Whether a list permits, and the digest of the STM image where it is known by then.
-pub struct Judged {
+pub struct ListJudged {
     pub permits: bool,
-    pub stm: StmDigest,
+    pub stm_digest: StmDigest,
 }
 
 // HashAlg of SHA-256.

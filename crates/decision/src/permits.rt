@@ -1,7 +1,7 @@
 // Which list of a file permits: rule 29.
-use crate::Judged;
 use crate::Judgement;
-use crate::MleCriteria;
+use crate::LaunchCriteria;
+use crate::ListJudged;
 use crate::StmDigest;
 use crate::elements::elements_judged;
 use crate::elements::stm_named;
@@ -18,10 +18,13 @@ ghost use Rattle.decision.specs.Lists.{ofGrammar, elementsPermit, permit
 ghost use Rattle.decision.specs.Answers.{criteriaOf};
 ghost use Rattle.decision.specs.Inner.{Known, ElementsStand, ListStands};
 
-fn judged(permits: bool, stm: StmDigest) -> Judged
-    ensures { λ r. ⌜ r ≡ record { permits = permits; stm = stm } ⌝ }
+fn list_judged(permits: bool, stm_digest: StmDigest) -> ListJudged
+    ensures { λ r. ⌜ r ≡ record { permits = permits; «stm_digest» = «stm_digest» } ⌝ }
 {
-    Judged { permits, stm }
+    ListJudged {
+        permits,
+        stm_digest,
+    }
 }
 
 // The digest of the STM image.
@@ -39,20 +42,26 @@ fn stm_digest(stm: &[u8], before: StmDigest) -> StmDigest
 }
 
 // Whether the elements of t from `start` on permit. The image is hashed for elements that permit but for their STM elements.
-fn elements_permit(t: &[u8], start: usize, stm: &[u8], k: MleCriteria, before: StmDigest) -> Judged
+fn elements_permit(
+    t: &[u8],
+    start: usize,
+    stm: &[u8],
+    k: LaunchCriteria,
+    before: StmDigest,
+) -> ListJudged
     requires { ⌜ ((es : List Element) × ElementsStand (now t) start es) × Known (now stm) before ⌝ }
-    ensures { λ r. ⌜ ((es : List Element) → ElementsStand (now (t .entry)) start es → r .permits ≡ elementsPermit (criteriaOf k (now (stm .entry))) es) × Known (now (stm .entry)) (r .stm) ⌝ }
+    ensures { λ r. ⌜ ((es : List Element) → ElementsStand (now (t .entry)) start es → r .permits ≡ elementsPermit (criteriaOf k (now (stm .entry))) es) × Known (now (stm .entry)) (r .«stm_digest») ⌝ }
 {
     match elements_judged(t, start, k) {
-        Judgement::No => judged(false, before),
-        Judgement::Yes => judged(true, before),
+        Judgement::No => list_judged(false, before),
+        Judgement::Yes => list_judged(true, before),
         Judgement::IfStmNamed => {
             if stm.len() == 0 {
-                return judged(false, before);
+                return list_judged(false, before);
             }
             let after = stm_digest(stm, before);
             let digest = after.digest;
-            judged(stm_named(t, start, &digest), after)
+            list_judged(stm_named(t, start, &digest), after)
         }
     }
 }
@@ -63,11 +72,11 @@ fn list_permits(
     l: ListAnswer,
     i: u32,
     stm: &[u8],
-    k: MleCriteria,
+    k: LaunchCriteria,
     before: StmDigest,
-) -> Judged
+) -> ListJudged
     requires { ⌜ ((x : PolicyList) × ListStands (now file) l x) × Known (now stm) before ⌝ }
-    ensures { λ r. ⌜ ((x : PolicyList) → ListStands (now (file .entry)) l x → r .permits ≡ permits (criteriaOf k (now (stm .entry))) i x) × Known (now (stm .entry)) (r .stm) ⌝ }
+    ensures { λ r. ⌜ ((x : PolicyList) → ListStands (now (file .entry)) l x → r .permits ≡ permits (criteriaOf k (now (stm .entry))) i x) × Known (now (stm .entry)) (r .«stm_digest») ⌝ }
 {
     match l {
         ListAnswer::Unsigned {
@@ -75,13 +84,13 @@ fn list_permits(
             elements_size,
             ..
         } => elements_permit(&file[..elements + elements_size], elements, stm, k, before),
-        ListAnswer::Signed { .. } => judged(false, before),
-        ListAnswer::Absent => judged(false, before),
+        ListAnswer::Signed { .. } => list_judged(false, before),
+        ListAnswer::Absent => list_judged(false, before),
     }
 }
 
 // The number of the lowest list of a file of the grammar that permits, NO_LIST where none does.
-fn lowest_in(file: &[u8], stm: &[u8], k: MleCriteria) -> u32
+fn lowest_in(file: &[u8], stm: &[u8], k: LaunchCriteria) -> u32
     requires { ⌜ ofGrammar (now file) ≡ true ⌝ }
     ensures { λ r. ⌜ r ≡ lowestPermitting (now (file .entry)) (criteriaOf k (now (stm .entry))) ⌝ }
 {
@@ -97,7 +106,7 @@ fn lowest_in(file: &[u8], stm: &[u8], k: MleCriteria) -> u32
         if answer.permits {
             return i;
         }
-        let next = answer.stm;
+        let next = answer.stm_digest;
         known = next;
         at += policy_answers::list_size(l);
         i += 1;
@@ -106,7 +115,7 @@ fn lowest_in(file: &[u8], stm: &[u8], k: MleCriteria) -> u32
 }
 
 // The number of the lowest list that permits, NO_LIST where none does, as in a file that is not of the grammar.
-pub fn lowest_permitting(file: &[u8], stm: &[u8], k: MleCriteria) -> u32
+pub fn lowest_permitting(file: &[u8], stm: &[u8], k: LaunchCriteria) -> u32
     ensures { λ r. ⌜ r ≡ lowestPermitting (now (file .entry)) (criteriaOf k (now (stm .entry))) ⌝ }
 {
     match policy_reader::read(file) {

@@ -5,7 +5,7 @@ use crate::Outcome;
 use answer::Answer;
 use answer::NO_LIST;
 use answer::refused;
-use decision::MleCriteria;
+use decision::LaunchCriteria;
 use decision::RecordAnswer;
 use mle::Image;
 ghost use mathlib.Core.Path.{_≡_};
@@ -59,7 +59,7 @@ fn by_file(window: &[u8], file: &[u8], stm: &[u8], f: Found) -> Outcome
 {
     let image = f.image;
     let digest = mle::digest(window, image);
-    let criteria = MleCriteria {
+    let criteria = LaunchCriteria {
         digest: digest,
         acm_version: f.acm_version,
     };

@@ -174,17 +174,17 @@ module _ (b : List ℕ) (start size control : ℕ) where
 
 -- an STM element's body
 module _ (b : List ℕ) (start size control : ℕ) (bs : (i : ℕ) → Fits w8 (getD b i 0)) (w : Bool) (ew : w ≡ fills Layout.digests b) where
-  abbrev monitored : ElementAnswer
-  monitored = elementShown start (Option·map (withBody size stmType control) (valueOf (filling Layout.stm b)))
+  abbrev stmShown : ElementAnswer
+  stmShown = elementShown start (Option·map (withBody size stmType control) (valueOf (filling Layout.stm b)))
 
   all-digests : valueOf (filling Layout.stm b) ≡ Option·map Grammar.stm (valueOf (filling Layout.digests (drop 0 b)))
   unfolding Layout.stm
   all-digests = last-filling Layout.stm b 0 Layout.digests Grammar.stm (upto-start Layout.stm b) (omega arith)
 
-  pub stm-other : not w ≡ true → Refused ≡ monitored
+  pub stm-other : not w ≡ true → Refused ≡ stmShown
   stm-other q = rw (no-digests b Layout.stm Grammar.stm 0 all-digests (sym ew ∙ not-true w q))
 
-  pub stm-yes : not w ≡ false → (a n : ℕ) → a ≡ numberAt b 0 2 → n ≡ numberAt b 2 2 → Stm start size control a n ≡ monitored
+  pub stm-yes : not w ≡ false → (a n : ℕ) → a ≡ numberAt b 0 2 → n ≡ numberAt b 2 2 → Stm start size control a n ≡ stmShown
   stm-yes q a n ea en =
       let (d, e, i, j) = some-digests b Layout.stm Grammar.stm 0 all-digests (λ k. bs k .fits) (sym ew ∙ not-false w q) a n ea en in
       rw (e, i, j)

@@ -273,3 +273,17 @@ fn under_any() {
     image.stm = vec![1; 100];
     assert_eq!(asked("ANY, another STM image", &image).number, 0);
 }
+
+/// A count of over a byte: the digest that is named is the last of 257, and the count says one fewer, as many, or one more.
+#[test]
+fn a_count_of_two_bytes() {
+    let mut digests = vec![[1; 32]; 256];
+    digests.push(stm_digest());
+    for (count, number) in [(1, 27), (256, 27), (257, 0), (258, 27)] {
+        let element = element(0x14, &stm_body(0x000b, count, &digests.concat()));
+        let asked = asked(&format!("a count of {count}"), &with_stm(&[list(&[mle(), element])], image_of_stm()));
+        assert_eq!(asked.number, number, "a count of {count}");
+    }
+    digests.pop();
+    assert_eq!(asked("the last one gone", &with_stm(&[list(&[mle(), stm(&digests)])], image_of_stm())).number, 29);
+}

@@ -44,7 +44,7 @@ names-requires c κs =
     let l = c .before .before .before .before .loop in
     let p = c .before .before .before .before .before .before .pre in
     let t = front kinds.element _ _ _ (l .inv (p .0) [] (p .1)) _ (c .before .before .before .loop-test .taken) (c .before .before .element-at .ensures .0) in
-    fits _ _ _ _ _ _ _ t
+    fits _ _ _ t
 
 is-stm-requires : tie.Need-is-stm-requires Inv-loop μ-loop
 is-stm-requires c κs = search needs

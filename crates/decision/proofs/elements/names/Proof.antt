@@ -23,7 +23,7 @@ digests-name-requires : tie.Need-digests-name-requires
 digests-name-requires c κs =
     let at-known = c .before .before .before .before .before .before in
     let at-start = at-known .before .before .before in
-    (lit< tt, count-fits (criteriaOf (at-start .args .k) (at-start .args .t .now)) (at-start .args .t .now) _ _ _ _ _ _ _ _ (at-known .e .given .1) (at-start .pre))
+    (lit< tt, count-fits (at-known .e .given .1) (at-start .pre))
 
 enum-told : tie.Need-enum-told
 enum-told c = search needs

@@ -2,7 +2,7 @@
 use mathlib.Core.Path.{refl}
 use lib.Dec.{lit<}
 use Rattle.decision.specs.Lists.{namesStm}
-use Rattle.decision.proofs.Naming.{other-case, stm-count-fits, stm-names}
+use Rattle.decision.proofs.Naming.{other-case, count-fits, stm-names}
 use borrow.Author.Needs.{needs}
 use Rattle.decision.proofs.elements.names_stm.Statement.{statement}
 use Rattle.decision.proofs.elements.names_stm.Tie as tie
@@ -16,7 +16,7 @@ body-requires c κs = search needs
 digests-name-requires : tie.Need-digests-name-requires
 digests-name-requires c κs =
     let at-start = c .before .before .before .before .before in
-    (lit< tt, stm-count-fits (at-start .args .t .now) (at-start .args .t .now) _ _ _ _ _ _ (c .before .before .e .given .1) (at-start .pre))
+    (lit< tt, count-fits (c .before .before .e .given .1) (at-start .pre))
 
 enum-told : tie.Need-enum-told
 enum-told c = search needs

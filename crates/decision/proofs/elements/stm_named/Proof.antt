@@ -8,7 +8,7 @@ use Rattle.policy_grammar.specs.Grammar.{Element}
 use Rattle.policy_reader.proofs.Standing as kinds
 use Rattle.policy_reader.proofs.Walk.{Left, front, onward, ended}
 use Rattle.decision.specs.Inner.{ElementsStand}
-use Rattle.decision.proofs.Judging.{Naming, naming-start, naming-end, stm-fits, this-names, this-does-not-name}
+use Rattle.decision.proofs.Judging.{Naming, naming-start, naming-end, fits, this-names, this-does-not-name}
 use borrow.Author.Needs.{needs}
 use Rattle.decision.proofs.elements.stm_named.Statement.{statement}
 use Rattle.decision.proofs.elements.stm_named.Tie as tie
@@ -30,7 +30,7 @@ names-stm-requires c κs =
     let l = c .before .before .loop in
     let p = c .before .before .before .before .pre in
     let t = front kinds.element _ _ _ (l .inv (p .0) (p .1)) _ (c .before .loop-test .taken) (c .element-at .ensures .0) in
-    stm-fits _ _ _ _ _ t
+    fits _ _ _ t
 
 returns : tie.Need-returns Inv-loop μ-loop
 returns c = λ es stand.

@@ -10,20 +10,20 @@ elements-judged-requires c κs = c .before .before .pre .0
 enum-told : tie.Need-enum-told
 enum-told c = search needs
 
-judged-requires : tie.Need-judged-requires
-judged-requires c κs = search needs
+list-judged-requires : tie.Need-list-judged-requires
+list-judged-requires c κs = search needs
 
 enum-told-2 : tie.Need-enum-told-2
 enum-told-2 c = search needs
 
-judged-requires-2 : tie.Need-judged-requires-2
-judged-requires-2 c κs = search needs
+list-judged-requires-2 : tie.Need-list-judged-requires-2
+list-judged-requires-2 c κs = search needs
 
 enum-told-3 : tie.Need-enum-told-3
 enum-told-3 c = search needs
 
-judged-requires-3 : tie.Need-judged-requires-3
-judged-requires-3 c κs = search needs
+list-judged-requires-3 : tie.Need-list-judged-requires-3
+list-judged-requires-3 c κs = search needs
 
 stm-digest-requires : tie.Need-stm-digest-requires
 stm-digest-requires c κs = c .before .before .before .before .before .before .pre .1
@@ -31,25 +31,25 @@ stm-digest-requires c κs = c .before .before .before .before .before .before .p
 stm-named-requires : tie.Need-stm-named-requires
 stm-named-requires c κs = c .before .before .before .before .before .before .before .before .before .pre .0
 
-judged-requires-4 : tie.Need-judged-requires-4
-judged-requires-4 c κs = search needs
+list-judged-requires-4 : tie.Need-list-judged-requires-4
+list-judged-requires-4 c κs = search needs
 
 returns : tie.Need-returns
 returns c =
     let at-judged = c .before .before .before .before in
-    rw (c .judged3 .ensures)
+    rw (c .list-judged3 .ensures)
     (λ es stand. no-image _ es _ (at-judged .elements-judged .ensures es _ stand) (c .before .before .enum-told3 .given .1) (c .before .if1 .taken), at-judged .before .before .before .pre .1)
 
 returns-2 : tie.Need-returns-2
 returns-2 c =
     let at-judged = c .before .before .before in
-    rw (c .judged .ensures)
+    rw (c .list-judged .ensures)
     (λ es stand. do-not-permit _ es _ (at-judged .elements-judged .ensures es _ stand) (c .before .enum-told .given .1), at-judged .before .before .before .pre .1)
 
 returns-3 : tie.Need-returns-3
 returns-3 c =
     let at-judged = c .before .before .before in
-    rw (c .judged2 .ensures)
+    rw (c .list-judged2 .ensures)
     (λ es stand. do-permit _ es _ (at-judged .elements-judged .ensures es _ stand) (c .before .enum-told2 .given .1), at-judged .before .before .before .pre .1)
 
 returns-4 : tie.Need-returns-4
@@ -57,7 +57,7 @@ returns-4 c =
     let at-digest = c .before .before .before .before in
     let known = at-digest .stm-digest .ensures in
     let at-judged = at-digest .before .before .before .before in
-    rw (c .judged4 .ensures)
+    rw (c .list-judged4 .ensures)
     (λ es stand. by-digest _ es _ (at-judged .elements-judged .ensures es _ stand) (at-digest .before .before .enum-told3 .given .1) (at-digest .before .if1 .left) _ (known .1) _ (c .before .stm-named .ensures es stand), λ e. known .1)
 
 pub elements-permit-spec : {M : Type 1} → statement M
@@ -66,15 +66,15 @@ elements-permit-spec =
     (tie.spec
     elements-judged-requires
     enum-told
-    judged-requires
+    list-judged-requires
     enum-told-2
-    judged-requires-2
+    list-judged-requires-2
     enum-told-3
-    judged-requires-3
+    list-judged-requires-3
     returns
     stm-digest-requires
     stm-named-requires
-    judged-requires-4
+    list-judged-requires-4
     returns-2
     returns-3
     returns-4)

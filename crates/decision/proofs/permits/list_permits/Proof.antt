@@ -32,14 +32,14 @@ elements-permit-requires c κs =
 enum-told : tie.Need-enum-told
 enum-told c = search needs
 
-judged-requires : tie.Need-judged-requires
-judged-requires c κs = search needs
+list-judged-requires : tie.Need-list-judged-requires
+list-judged-requires c κs = search needs
 
 enum-told-2 : tie.Need-enum-told-2
 enum-told-2 c = search needs
 
-judged-requires-2 : tie.Need-judged-requires-2
-judged-requires-2 c κs = search needs
+list-judged-requires-2 : tie.Need-list-judged-requires-2
+list-judged-requires-2 c κs = search needs
 
 returns : tie.Need-returns
 returns c = (
@@ -51,11 +51,11 @@ returns c = (
 
 returns-2 : tie.Need-returns-2
 returns-2 c =
-    rw (c .judged .ensures) (λ x stands. signed-list _ _ x stands _ _ _ (c .before .enum-told .given .1) refl, c .before .before .before .before .before .pre .1)
+    rw (c .list-judged .ensures) (λ x stands. signed-list _ _ x stands _ _ _ (c .before .enum-told .given .1) refl, c .before .before .before .before .before .pre .1)
 
 returns-3 : tie.Need-returns-3
 returns-3 c =
-    rw (c .judged2 .ensures) (λ x stands. signed-list _ _ x stands _ _ _ (c .before .enum-told2 .given .1) refl, c .before .before .before .before .before .pre .1)
+    rw (c .list-judged2 .ensures) (λ x stands. signed-list _ _ x stands _ _ _ (c .before .enum-told2 .given .1) refl, c .before .before .before .before .before .pre .1)
 
 pub list-permits-spec : {M : Type 1} → statement M
 list-permits-spec =
@@ -66,9 +66,9 @@ list-permits-spec =
     slice-aggregate-elements-permit
     elements-permit-requires
     enum-told
-    judged-requires
+    list-judged-requires
     enum-told-2
-    judged-requires-2
+    list-judged-requires-2
     returns
     returns-2
     returns-3)

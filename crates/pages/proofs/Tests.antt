@@ -1,8 +1,8 @@
 -- What the tests of the code say: tests in order, the bits of an entry, rule 19 without a sum, and what is read of a table.
 use Prim.Native.Nat.{ℕ, _+_, _*_, _-_, _≤_, _<_}
-use mathlib.Core.Path.{_≡_, refl, sym}
+use mathlib.Core.Path.{_≡_, refl, ap, sym, _∙_}
 use mathlib.Core.Logic.{_↔_, _⊎_}
-use mathlib.Core.Bool.{Bool, true, false, _&&_, _||_}
+use mathlib.Core.Bool.{Bool, true, false, _&&_, _||_, and-true, or-false}
 use mathlib.Core.List.{List}
 use native.Mathlib.Omega.{arith}
 use borrow.Author.Tests.{lt-ltb, le-ltb, eq-eqb, ne-eqb, eqb-true, eqb-false}
@@ -18,27 +18,31 @@ use Rattle.pages.specs.Memory.{pageOf, windowOf}
 use Rattle.pages.specs.Tables.{readOf}
 use Rattle.pages.specs.Rules.{follows}
 
--- TESTS IN ORDER
+-- TESTS IN ORDER, joined by `&&` or by `||`: one that gives `stop` decides, and one that gives `pass` leaves it to the later ones
 
-pub all-stop : (r t later : Bool) → r ≡ t → r ≡ false → r ≡ (t && later)
-all-stop r t later e h = rw (← e, h)
+pub record Joined : Type 0 where
+  pub join : Bool → Bool → Bool
+  pub stop : Bool
+  pub pass : Bool
+  pub decides : (later : Bool) → join stop later ≡ stop
+  pub leaves : (later : Bool) → join pass later ≡ later
+  pub ends : (t : Bool) → join t pass ≡ t
 
-pub all-pass : (r t x later : Bool) → r ≡ t → r ≡ true → x ≡ later → x ≡ (t && later)
-all-pass r t x later e h f = rw (← e, h, f)
+abbrev pub by-every : Joined
+by-every = record { join = _&&_; stop = false; pass = true; decides = λ t. refl; leaves = λ t. refl; ends = and-true }
 
-pub all-last : (r t : Bool) → r ≡ t → r ≡ (t && true)
-all-last true t e = rw (← e)
-all-last false t e = rw (← e)
+abbrev pub by-some : Joined
+by-some = record { join = _||_; stop = true; pass = false; decides = λ t. refl; leaves = λ t. refl; ends = or-false }
 
-pub some-stop : (r t later : Bool) → r ≡ t → r ≡ true → r ≡ (t || later)
-some-stop r t later e h = rw (← e, h)
+module _ (j : Joined) (r t : Bool) (e : r ≡ t) where
+  pub decided : (later : Bool) → r ≡ j .stop → r ≡ j .join t later
+  decided later h = h ∙ sym (j .decides later) ∙ ap (λ (x : Bool). j .join x later) (sym h ∙ e)
 
-pub some-pass : (r t x later : Bool) → r ≡ t → r ≡ false → x ≡ later → x ≡ (t || later)
-some-pass r t x later e h f = rw (← e, h, f)
+  pub left-to : (x later : Bool) → r ≡ j .pass → x ≡ later → x ≡ j .join t later
+  left-to x later h f = f ∙ sym (j .leaves later) ∙ ap (λ (y : Bool). j .join y later) (sym h ∙ e)
 
-pub some-last : (r t : Bool) → r ≡ t → r ≡ (t || false)
-some-last true t e = rw (← e)
-some-last false t e = rw (← e)
+  pub last : r ≡ j .join t (j .pass)
+  last = e ∙ sym (j .ends t)
 
 -- BITS
 

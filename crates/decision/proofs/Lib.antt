@@ -3,7 +3,6 @@
 mod Members
 -- What the rules say.
 pub mod Conditions
-pub mod RecordAnswers
 -- Loops over the lists of a file and the elements of a list.
 mod Walking
 mod Hashing

@@ -1,5 +1,4 @@
 -- What the contracts of the crate say, and what the rules mean.
-pub mod Record
 pub mod Lists
 pub mod Answers
 pub mod Inner

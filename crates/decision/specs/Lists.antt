@@ -16,7 +16,7 @@ use Rattle.policy_grammar.specs.Grammar as Grammar
 use Rattle.policy_answers.specs.Answers.{listsIn}
 use Rattle.policy_grammar.specs.Decode.{accepted}
 use Rattle.policy_grammar.specs.Sizes.{leastFile, largestFile}
-use Rattle.decision.specs.Record.{policyHash, sha256Alg}
+use Rattle.policy_record.specs.Record.{policyHash, sha256Alg}
 
 -- 26. "policy file not wholly in the window, or its size not 36 to 65,536"
 -- w is the window, which begins at `window`; the file has `size` bytes at `base`

@@ -1,6 +1,6 @@
--- What rules 23 to 29 say, as plain propositions, and that the tests say exactly this. Each statement that ends in `Exactly` is proved under the same
--- name in small letters: proofs/Conditions.antt, RecordAnswers.antt, Readings.antt, Permission.antt and FileRules.antt.
-use Prim.Native.Nat.{ℕ, _+_, _/_, _%_, _^_, _≤_, _<_}
+-- What rules 26 to 29 say, as plain propositions, and that the tests say exactly this. Each statement that ends in `Exactly` is proved under the same
+-- name in small letters: proofs/Conditions.antt, Readings.antt, Permission.antt and FileRules.antt.
+use Prim.Native.Nat.{ℕ, _+_, _≤_, _<_}
 use mathlib.Core.Path.{_≡_}
 use mathlib.Core.Logic.{_↔_, _⊎_}
 use mathlib.Core.Bool.{true}
@@ -9,38 +9,15 @@ use mathlib.Core.Option.{some}
 use lib.ListN.{length, getElem?}
 use Rattle.field.specs.Number.{Bytes}
 use Rattle.rules.specs.Rules.{all, firstFailing, Every, Some}
-use Rattle.rules.specs.Meaning.{Meaning, meaning, AllSay, FirstBroken}
+use Rattle.rules.specs.Meaning.{Meaning, meaning, FirstBroken}
 use Rattle.sha256.specs.Message.{sha256}
 use Rattle.policy_grammar.specs.Grammar.{Digests, Launch, launchType, customType, stmType, Element, PolicyList, Reading, Makes}
 use Rattle.policy_grammar.specs.Grammar as Grammar
 use Rattle.policy_grammar.specs.Sizes.{leastFile, largestFile}
-use Rattle.decision.specs.declared.RecordAnswer.the-variants as answers
-use Rattle.decision.specs.Record.{recordSize, versionHigh, knownVersion, hashAlg, sha256Alg, policyType, LIST, ANY, sinitMinVersion, control, policyHash, recordTests, worthyOrAllowed, versionReached, recordRules}
-use Rattle.decision.specs.Answers.{numberOf, recordOf, fileRules}
+use Rattle.policy_record.specs.Record.{sha256Alg, policyHash}
+use Rattle.decision.specs.Answers.{fileRules}
 use Rattle.answer.specs.Answer.{noList}
 use Rattle.decision.specs.Lists.{Criteria, filePlaced, ofGrammar, listsOf, measure, hashMatches, judged, names, isStm, namesStm, somePermits, lowestPermitting}
-
--- 23
-pub record Record (r : List ℕ) : Type 0 where
-  pub size : length r ≡ recordSize
-  pub version : versionHigh r ≡ knownVersion
-  pub algorithm : hashAlg r ≡ sha256Alg
-  pub type : (policyType r ≡ LIST) ⊎ (policyType r ≡ ANY)
-
--- 24
-abbrev pub Bit : ℕ → ℕ → Type 0
-Bit k x = x / 2 ^ k % 2 ≡ 1
-
-abbrev pub WorthyOrAllowed : ℕ → List ℕ → Type 0
-WorthyOrAllowed flags r = (Bit 14 flags) ⊎ (Bit 15 flags) → Bit 1 (control r)
-
--- 25
-abbrev pub Reached : ℕ → List ℕ → Type 0
-Reached acmVersion r = sinitMinVersion r ≤ acmVersion
-
--- the rules of the record, in the order they are tried
-abbrev pub recordMeanings : List ℕ → ℕ → ℕ → List Meaning
-recordMeanings r flags acmVersion = meaning 23 (Record r) ∷ meaning 24 (WorthyOrAllowed flags r) ∷ meaning 25 (Reached acmVersion r) ∷ []
 
 -- 26
 pub record Placed (w : List ℕ) (window base size : ℕ) : Type 0 where
@@ -113,27 +90,6 @@ pub record Lowest (reading : Reading) (k : Criteria) (i : ℕ) : Type 0 where
   pub lowest : (j : ℕ) → j < i → PermitsAt reading k j → ⊥
 
 -- THE TESTS SAY THIS
-
--- the number of the answer for a record is that of the first rule that fails
-abbrev pub NumberIsFirst : Type 0
-NumberIsFirst = (r : List ℕ) (flags acmVersion : ℕ) → numberOf (recordOf r flags acmVersion) ≡ firstFailing (recordRules r flags acmVersion)
-
-abbrev pub RecordExactly : Type 0
-RecordExactly = (r : List ℕ) → (all (recordTests r) ≡ true) ↔ Record r
-
-abbrev pub WorthyOrAllowedExactly : Type 0
-WorthyOrAllowedExactly = (flags : ℕ) (r : List ℕ) → (worthyOrAllowed flags r ≡ true) ↔ WorthyOrAllowed flags r
-
-abbrev pub ReachedExactly : Type 0
-ReachedExactly = (acmVersion : ℕ) (r : List ℕ) → (versionReached acmVersion r ≡ true) ↔ Reached acmVersion r
-
--- LIST or ANY is answered exactly where every rule of the record says what is so, and a number exactly where it is that of the first that is broken
-abbrev pub AnswerExactly : Type 0
-AnswerExactly =
-    (r : List ℕ) (flags acmVersion : ℕ)
-    → ((recordOf r flags acmVersion ≡ answers.List) ↔ (AllSay (recordMeanings r flags acmVersion) × (policyType r ≡ LIST)))
-    × ((recordOf r flags acmVersion ≡ answers.Any) ↔ (AllSay (recordMeanings r flags acmVersion) × (policyType r ≡ ANY)))
-    × ((n : ℕ) → (recordOf r flags acmVersion ≡ answers.Refused n) ↔ FirstBroken (recordMeanings r flags acmVersion) n)
 
 abbrev pub PlacedExactly : Type 0
 PlacedExactly = (w : List ℕ) (window base size : ℕ) → (all (filePlaced w window base size) ≡ true) ↔ Placed w window base size

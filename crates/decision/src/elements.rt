@@ -1,10 +1,10 @@
 // The elements of a list: whether they are of types that are judged, and which digests they name.
 use crate::Judgement;
 use crate::LaunchCriteria;
-use crate::SHA256_ALG;
 use policy_answers::ElementAnswer;
 use policy_answers::LAUNCH_DIGESTS;
 use policy_answers::STM_DIGESTS;
+use policy_record::SHA256_ALG;
 ghost use mathlib.Core.Path.{_≡_};
 ghost use mathlib.Core.List.{List};
 ghost use Prim.Native.Nat.{_<_, _^_, ℕ};

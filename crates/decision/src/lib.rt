@@ -1,22 +1,13 @@
-// What the policy decides: the policy record (rules 23 to 25), the policy file in the window (26 to 28), and the lowest list that permits (29).
+// What the policy file decides: where it stands in the window and whether its hash is right (26 to 28), and the lowest list that permits (29).
 mod elements;
 mod measures;
 mod permits;
 mod place;
-mod policy_record;
 
 pub use measures::file_fault;
 pub use permits::lowest_permitting;
 pub use place::file;
 pub use place::file_placed;
-pub use policy_record::kind;
-
-// The kind of policy of a record for which rules 23 to 25 hold, or the number of the rule that refuses it.
-pub enum RecordAnswer {
-    Any,
-    List,
-    Refused(u32),
-}
 
 // What a list is judged by of the launch: the digest of the pages, and AcmVersion of the module. The STM image, which is lent, goes beside it.
 pub struct LaunchCriteria {
@@ -42,6 +33,3 @@ pub struct ListJudged {
     pub permits: bool,
     pub stm_digest: StmDigest,
 }
-
-// HashAlg of SHA-256.
-const SHA256_ALG: u64 = 0x000B;

@@ -12,12 +12,13 @@ use Rattle.rules.proofs.Rules.{NumbersIn, numbers-not-0, number-most}
 use Rattle.rules.proofs.Tests.{_&_, fails}
 use Rattle.rules.proofs.Answers.{permits, rule-refuses, rule-passes, group-refuses, group-passes}
 use Rattle.mle.specs.Image.{imageDigest}
-use Rattle.decision.specs.declared.RecordAnswer.the-variants as records
-use Rattle.decision.specs.Record.{policyType, LIST, recordRules}
+use Rattle.policy_record.specs.declared.RecordAnswer.the-variants as records
+use Rattle.policy_record.specs.Record.{policyType, LIST, recordRules}
 use Rattle.decision.specs.Lists.{filePlaced, somePermits, lowestPermitting}
 use Rattle.answer.specs.Answer.{noList}
-use Rattle.decision.specs.Answers.{recordOf, fileRules}
-use Rattle.decision.proofs.RecordAnswers.{list-exactly, any-exactly, refusal-exactly}
+use Rattle.policy_record.specs.Answers.{recordOf}
+use Rattle.decision.specs.Answers.{fileRules}
+use Rattle.policy_record.proofs.RecordAnswers.{list-exactly, any-exactly, refusal-exactly}
 use Rattle.decision.proofs.Permission.{reported-exactly}
 use Rattle.launch.specs.declared.Found.{Found}
 use Rattle.launch.specs.declared.Outcome.{Outcome}

@@ -19,7 +19,7 @@ use Rattle.pages.proofs.Meaning.{mapped-exactly, found-by-walk}
 use Rattle.mle.specs.declared.Image.{Image}
 use Rattle.mle.specs.Image.{addressAt, addressesFrom, bytesFrom, imageDigest}
 use Rattle.mle.proofs.Pages.{AllInside, bytes-there, addresses-length, page-list-written, page-list-place}
-use Rattle.decision.specs.Record.{policyType, LIST, ANY}
+use Rattle.policy_record.specs.Record.{policyType, LIST, ANY}
 use Rattle.answer.specs.declared.Answer.{Answer}
 use Rattle.answer.specs.Answer.{noList}
 use Rattle.decision.specs.Lists.{lowestPermitting}

@@ -13,7 +13,7 @@ use Rattle.rules.specs.Rules.{firstFailing}
 use Rattle.rules.specs.Meaning.{FirstBroken}
 use Rattle.rules.proofs.Rules.{from-later}
 use Rattle.rules.proofs.Meaning.{broken-exactly}
-use Rattle.decision.specs.Record.{policyType, LIST, recordRules}
+use Rattle.policy_record.specs.Record.{policyType, LIST, recordRules}
 use Rattle.launch.specs.Rules.{Input, found, findRules, listRules, decideRules, rules}
 use Rattle.launch.specs.Meaning.{listMeanings}
 use Rattle.launch.specs.Demand2.{NoList}

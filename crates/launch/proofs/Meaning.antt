@@ -25,12 +25,13 @@ use Rattle.pages.proofs.Conditions.{walk-agree}
 use Rattle.mle.proofs.Meaning.{size-exactly, header-exactly}
 use Rattle.policy_grammar.specs.Grammar.{Reading, Makes}
 use Rattle.policy_grammar.specs.Sizes.{largestFile}
-use Rattle.decision.specs.Record.{policyType, LIST, recordRules}
+use Rattle.policy_record.specs.Record.{policyType, LIST, recordRules}
 use Rattle.decision.specs.Lists.{filePlaced, fileOf, somePermits}
 use Rattle.decision.specs.Answers.{fileRules}
-use Rattle.decision.specs.Meaning.{Reads, SomeReading, SomePermits, recordMeanings, fileMeanings}
+use Rattle.policy_record.specs.Meaning.{recordMeanings}
+use Rattle.decision.specs.Meaning.{Reads, SomeReading, SomePermits, fileMeanings}
 use Rattle.decision.proofs.Conditions.{placed-exactly}
-use Rattle.decision.proofs.RecordAnswers as records
+use Rattle.policy_record.proofs.RecordAnswers as records
 use Rattle.decision.proofs.FileRules as files
 use Rattle.launch.specs.Rules.{Input, chipsetOf, imageRules, pageRules, os, moduleData, memory, image, found, criteria, findRules, listRules, decideRules, rules}
 use Rattle.launch.specs.Meaning.{sizeMeanings, imageMeanings, findMeanings, file, listMeanings, decideMeanings, meanings}

@@ -20,7 +20,7 @@ use Rattle.pages.specs.declared.levels.State.{State}
 use Rattle.pages.specs.Memory.{windowOf}
 use Rattle.pages.specs.Tables as tables
 use Rattle.pages.specs.Rules.{startOf, afterEntry, baseRules, entryRules, rulesFrom, walkRules}
-use Rattle.decision.specs.Record.{policyType, LIST, recordRules}
+use Rattle.policy_record.specs.Record.{policyType, LIST, recordRules}
 use Rattle.decision.specs.Answers.{fileRules}
 use Rattle.launch.specs.declared.Found.{Found}
 use Rattle.launch.specs.Rules.{Input, chipsetOf, platformTests, sizeRules, imageRules, pageRules, os, moduleData, memory, image, found, findRules, listRules, decideRules, rules}

@@ -23,7 +23,8 @@ use Rattle.mle.specs.declared.Image.{Image}
 use Rattle.mle.specs.Meaning as mle
 use Rattle.policy_grammar.specs.Grammar.{Reading}
 use Rattle.policy_grammar.proofs.Decoding.{unique}
-use Rattle.decision.specs.Record.{policyType, LIST}
+use Rattle.policy_record.specs.Record.{policyType, LIST}
+use Rattle.policy_record.specs.Meaning as records
 use Rattle.decision.specs.Meaning as decision
 use Rattle.launch.specs.declared.Platform.{Platform}
 use Rattle.launch.specs.Rules.{Input, chipsetOf, foundOf, os, moduleData, memory, image, found, criteria}
@@ -55,9 +56,9 @@ module _ (i : Input) where
     pub walk : AllSay (walkSays i)
     pub counted : image i .count ≡ N i
     pub header : Header (image i)
-    pub policyRecord : decision.Record r
-    pub worthyOrAllowed : decision.WorthyOrAllowed (moduleData i .flags) r
-    pub reached : decision.Reached (moduleData i .«acm_version») r
+    pub policyRecord : records.Record r
+    pub worthyOrAllowed : records.WorthyOrAllowed (moduleData i .flags) r
+    pub reached : records.Reached (moduleData i .«acm_version») r
     pub lists : policyType r ≡ LIST → AllSay (listMeanings i)
 
   abbrev listsSay : Bool → List Meaning

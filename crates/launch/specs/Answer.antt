@@ -8,7 +8,7 @@ use Rattle.rules.specs.Rules.{answerBy}
 use Rattle.answer.specs.declared.Answer.{Answer}
 use Rattle.answer.specs.Answer.{noList, refused}
 use Rattle.mle.specs.Image.{imageDigest, pageList}
-use Rattle.decision.specs.Record.{policyType, LIST}
+use Rattle.policy_record.specs.Record.{policyType, LIST}
 use Rattle.decision.specs.Lists.{lowestPermitting}
 use Rattle.launch.specs.declared.Found.{Found}
 use Rattle.launch.specs.Rules.{Input, policyFile, criteria, image, found, rules}

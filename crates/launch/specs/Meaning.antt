@@ -12,8 +12,9 @@ use Rattle.sinit.specs.Meaning as sinit
 use Rattle.pages.specs.Meaning.{walkMeanings}
 use Rattle.mle.specs.Meaning as mle
 use Rattle.policy_grammar.specs.Grammar.{Reading}
-use Rattle.decision.specs.Record.{policyType, LIST}
-use Rattle.decision.specs.Meaning.{recordMeanings, fileMeanings, Placed, SomeReading, SomePermits}
+use Rattle.policy_record.specs.Record.{policyType, LIST}
+use Rattle.policy_record.specs.Meaning.{recordMeanings}
+use Rattle.decision.specs.Meaning.{fileMeanings, Placed, SomeReading, SomePermits}
 use Rattle.launch.specs.Rules.{Input, chipsetOf, os, moduleData, memory, image, found, policyFile, criteria}
 use Rattle.launch.specs.Permitted.{PlatformHolds, N, Permitted}
 

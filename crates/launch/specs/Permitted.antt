@@ -13,7 +13,8 @@ use Rattle.mle.specs.declared.Image.{Image}
 use Rattle.mle.specs.Header.{pagesOf}
 use Rattle.mle.specs.Meaning as mle
 use Rattle.policy_grammar.specs.Grammar.{Reading, Makes}
-use Rattle.decision.specs.Record.{policyType, LIST}
+use Rattle.policy_record.specs.Record.{policyType, LIST}
+use Rattle.policy_record.specs.Meaning as records
 use Rattle.decision.specs.Meaning as decision
 use Rattle.launch.specs.declared.Platform.{Platform}
 use Rattle.launch.specs.declared.Found.{Found}
@@ -84,10 +85,10 @@ module _ (i : Input) where
     -- 22
     pub mleHeader : mle.Header (i .window) (pagesFrom first) (os i .«mle_header_base») (os i .«mle_size») (moduleData i .«min_mle_header_ver»)
     -- 23
-    pub policyRecord : decision.Record (i .policyRecord)
+    pub policyRecord : records.Record (i .policyRecord)
     -- 24
-    pub worthyOrAllowed : decision.WorthyOrAllowed (moduleData i .flags) (i .policyRecord)
+    pub worthyOrAllowed : records.WorthyOrAllowed (moduleData i .flags) (i .policyRecord)
     -- 25
-    pub reached : decision.Reached (moduleData i .«acm_version») (i .policyRecord)
+    pub reached : records.Reached (moduleData i .«acm_version») (i .policyRecord)
     -- 26 to 29
     pub lists : policyType (i .policyRecord) ≡ LIST → ListPermits (i .window) (i .policyRecord) (i .stm) (foundOf (pagesFrom first) (os i) (moduleData i))

@@ -19,7 +19,7 @@ use Rattle.pages.specs.Rules.{walkRules, endState}
 use Rattle.mle.specs.declared.Image.{Image}
 use Rattle.mle.specs.Image.{imageDigest}
 use Rattle.mle.specs.Header.{pagesOf, sizeTests, headerTests}
-use Rattle.decision.specs.Record.{policyType, LIST, recordRules}
+use Rattle.policy_record.specs.Record.{policyType, LIST, recordRules}
 use Rattle.decision.specs.Lists.{Criteria, filePlaced, fileOf, somePermits}
 use Rattle.decision.specs.Answers.{fileRules}
 use Rattle.launch.specs.declared.Platform.{Platform}

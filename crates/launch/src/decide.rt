@@ -6,8 +6,8 @@ use answer::Answer;
 use answer::NO_LIST;
 use answer::refused;
 use decision::LaunchCriteria;
-use decision::RecordAnswer;
 use mle::Image;
+use policy_record::RecordAnswer;
 ghost use mathlib.Core.Path.{_≡_};
 ghost use Rattle.answer.specs.Answer.{noList};
 ghost use Rattle.launch.specs.Inner as spec;
@@ -98,7 +98,7 @@ fn by_any(window: &[u8], f: Found) -> Outcome
 pub(crate) fn decide(window: &[u8], record: &[u8], stm: &[u8], f: Found) -> Outcome
     ensures { λ r. ⌜ r ≡ spec.decideStage (now (window .entry)) (now («record» .entry)) (now (stm .entry)) f ⌝ }
 {
-    match decision::kind(record, f.flags, f.acm_version) {
+    match policy_record::kind(record, f.flags, f.acm_version) {
         RecordAnswer::Refused(n) => refusal(n),
         RecordAnswer::Any => by_any(window, f),
         RecordAnswer::List => by_lists(window, record, stm, f),

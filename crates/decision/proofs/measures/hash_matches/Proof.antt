@@ -6,7 +6,7 @@ use mathlib.Core.List.{List}
 use lib.Dec.{lit<}
 use lib.ListN.{length}
 use Rattle.field.specs.Field.{same, markedAt}
-use Rattle.decision.specs.Record.{policyHash}
+use Rattle.policy_record.specs.Record.{policyHash}
 use Rattle.decision.specs.Lists.{hashMatches}
 use Rattle.field.proofs.Laws.{marked-same}
 use borrow.Author.Needs.{needs}

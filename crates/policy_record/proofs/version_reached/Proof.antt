@@ -1,8 +1,8 @@
 -- `version_reached` meets its contract.
-use Rattle.decision.specs.Record.{versionReached}
+use Rattle.policy_record.specs.Record.{versionReached}
 use borrow.Author.Needs.{needs}
-use Rattle.decision.proofs.policy_record.version_reached.Statement.{statement}
-use Rattle.decision.proofs.policy_record.version_reached.Tie as tie
+use Rattle.policy_record.proofs.version_reached.Statement.{statement}
+use Rattle.policy_record.proofs.version_reached.Tie as tie
 
 number-or-zero-requires : tie.Need-number-or-zero-requires
 number-or-zero-requires c κs = search needs

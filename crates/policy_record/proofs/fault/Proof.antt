@@ -1,7 +1,7 @@
 -- `fault` meets its contract: each rule that fails stands before the later ones.
 use borrow.Author.Needs.{needs}
-use Rattle.decision.proofs.policy_record.fault.Statement.{statement}
-use Rattle.decision.proofs.policy_record.fault.Tie as tie
+use Rattle.policy_record.proofs.fault.Statement.{statement}
+use Rattle.policy_record.proofs.fault.Tie as tie
 
 version-reached-requires : tie.Need-version-reached-requires
 version-reached-requires c κs = search needs

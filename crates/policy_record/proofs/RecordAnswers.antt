@@ -13,12 +13,12 @@ use Rattle.rules.specs.Meaning.{AllSay}
 use Rattle.rules.proofs.Tests.{_&_}
 use Rattle.rules.proofs.Meaning.{Agree, agrees, all-mean}
 use Rattle.rules.proofs.Answers.{number-of, value-exactly, number-exactly, number-means}
-use Rattle.decision.specs.declared.RecordAnswer.{RecordAnswer}
-use Rattle.decision.specs.declared.RecordAnswer.the-variants as answers
-use Rattle.decision.specs.Record.{policyType, LIST, recordRules}
-use Rattle.decision.specs.Answers.{kindOf, numberOf, recordOf}
-use Rattle.decision.specs.Meaning.{recordMeanings, NumberIsFirst, AnswerExactly}
-use Rattle.decision.proofs.Conditions.{record-exactly, worthy-or-allowed-exactly, reached-exactly}
+use Rattle.policy_record.specs.declared.RecordAnswer.{RecordAnswer}
+use Rattle.policy_record.specs.declared.RecordAnswer.the-variants as answers
+use Rattle.policy_record.specs.Record.{policyType, LIST, recordRules}
+use Rattle.policy_record.specs.Answers.{kindOf, numberOf, recordOf}
+use Rattle.policy_record.specs.Meaning.{recordMeanings, NumberIsFirst, AnswerExactly}
+use Rattle.policy_record.proofs.Conditions.{record-exactly, worthy-or-allowed-exactly, reached-exactly}
 
 different : {A : Type 0} → _≡_ {A = ℕ} 0 1 → A
 different z = absurd (omega arith)

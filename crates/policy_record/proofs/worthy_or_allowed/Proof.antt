@@ -6,11 +6,11 @@ use native.Mathlib.Omega.{arith}
 use borrow.Author.Tests.{eqb-true, eqb-false}
 use lib.Bits.{bitAnd, and-mask}
 use Rattle.rules.proofs.Tests.{holds, agrees}
-use Rattle.decision.specs.Meaning.{Bit}
-use Rattle.decision.proofs.Conditions.{worthy-or-allowed-exactly}
+use Rattle.policy_record.specs.Meaning.{Bit}
+use Rattle.policy_record.proofs.Conditions.{worthy-or-allowed-exactly}
 use borrow.Author.Needs.{needs}
-use Rattle.decision.proofs.policy_record.worthy_or_allowed.Statement.{statement}
-use Rattle.decision.proofs.policy_record.worthy_or_allowed.Tie as tie
+use Rattle.policy_record.proofs.worthy_or_allowed.Statement.{statement}
+use Rattle.policy_record.proofs.worthy_or_allowed.Tie as tie
 
 high : (y z : ℕ) → z ≡ y / 2 → y % 2 ≡ 0 → (y % 4 ≡ 0 → ⊥) → z % 2 ≡ 1
 high y z d e h = omega arith

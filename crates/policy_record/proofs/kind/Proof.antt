@@ -4,13 +4,13 @@ use mathlib.Core.Path.{_≡_, ap, sym, _∙_}
 use borrow.Author.Tests.{ne-eqb}
 use Rattle.rules.specs.Rules.{answerFor}
 use Rattle.rules.proofs.Answers.{for-zero, for-other}
-use Rattle.decision.specs.declared.RecordAnswer.{RecordAnswer}
-use Rattle.decision.specs.declared.RecordAnswer.the-variants as answers
-use Rattle.decision.specs.Record.{LIST}
-use Rattle.decision.specs.Answers.{kindOf, recordOf}
+use Rattle.policy_record.specs.declared.RecordAnswer.{RecordAnswer}
+use Rattle.policy_record.specs.declared.RecordAnswer.the-variants as answers
+use Rattle.policy_record.specs.Record.{LIST}
+use Rattle.policy_record.specs.Answers.{kindOf, recordOf}
 use borrow.Author.Needs.{needs}
-use Rattle.decision.proofs.policy_record.kind.Statement.{statement}
-use Rattle.decision.proofs.policy_record.kind.Tie as tie
+use Rattle.policy_record.proofs.kind.Statement.{statement}
+use Rattle.policy_record.proofs.kind.Tie as tie
 
 refused : (n k : ℕ) (a : RecordAnswer) → n ≡ k → (n ≡ 0 → ⊥) → answers.Refused n ≡ answerFor answers.Refused a k
 refused n k a e h = sym (ap (answerFor answers.Refused a) (sym e) ∙ for-other answers.Refused a n h)

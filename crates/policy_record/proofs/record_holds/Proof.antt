@@ -3,10 +3,10 @@ use mathlib.Core.Logic.{inl, inr, ⊎-elim}
 use native.Mathlib.Omega.{arith}
 use borrow.Author.Tests.{eqb-true, eqb-false}
 use Rattle.rules.proofs.Tests.{fails, holds, agrees}
-use Rattle.decision.proofs.Conditions.{record-exactly}
+use Rattle.policy_record.proofs.Conditions.{record-exactly}
 use borrow.Author.Needs.{needs}
-use Rattle.decision.proofs.policy_record.record_holds.Statement.{statement}
-use Rattle.decision.proofs.policy_record.record_holds.Tie as tie
+use Rattle.policy_record.proofs.record_holds.Statement.{statement}
+use Rattle.policy_record.proofs.record_holds.Tie as tie
 
 returns : tie.Need-returns
 returns c = fails (record-exactly _) (λ h. omega arith)

@@ -1,11 +1,19 @@
 // The policy record: rules 23 to 25, and the kind of policy.
-use crate::RecordAnswer;
-use crate::SHA256_ALG;
 use field::number_or_zero;
 ghost use mathlib.Core.Path.{_≡_};
 ghost use Rattle.rules.specs.Rules.{all, firstFailing};
-ghost use Rattle.decision.specs.Record.{policyType, recordTests, worthyOrAllowed, versionReached, recordRules};
-ghost use Rattle.decision.specs.Answers.{recordOf};
+ghost use Rattle.policy_record.specs.Record.{policyType, recordTests, worthyOrAllowed, versionReached, recordRules};
+ghost use Rattle.policy_record.specs.Answers.{recordOf};
+
+// The kind of policy of a record for which rules 23 to 25 hold, or the number of the rule that refuses it.
+pub enum RecordAnswer {
+    Any,
+    List,
+    Refused(u32),
+}
+
+// HashAlg of SHA-256.
+pub const SHA256_ALG: u64 = 0x000B;
 
 const RECORD_SIZE: usize = 70;
 

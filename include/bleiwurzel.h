@@ -65,7 +65,7 @@ enum bleiwurzel_number {
     BLEIWURZEL_TABLE_PAGES = 18,
     /* The image's linear pages do not follow one another: there is a gap. */
     BLEIWURZEL_LINEAR_GAP = 19,
-    /* A page of the image does not lie wholly in DPR, in the low PMR or in the high PMR. */
+    /* Neither DPR nor the low PMR nor the high PMR holds all pages of the image. */
     BLEIWURZEL_NOT_PROTECTED = 20,
     /* The tables map another number of pages than MLE Size says. */
     BLEIWURZEL_PAGE_COUNT = 21,

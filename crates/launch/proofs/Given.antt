@@ -9,12 +9,15 @@ use lib.Dec.{lit<}
 use lib.ListN.{length, take, drop, getD}
 use lib.Seq.{take-append-seam, drop-append-seam}
 use Rattle.field.specs.Number.{Bytes}
+use Rattle.range.specs.declared.Range.{Range}
 use Rattle.rules.specs.Rules.{firstFailing}
+use Rattle.rules.proofs.Tests.{some-map}
 use Rattle.range.proofs.Ranges.{inside-exactly}
 use Rattle.sha256.specs.Message.{sha256}
 use Rattle.pages.specs.declared.Kind.the-variants.{Page}
 use Rattle.pages.specs.Entry.{addressOf}
-use Rattle.pages.specs.Meaning.{entry, Walked}
+use Rattle.pages.specs.Memory.{pageOf, regions}
+use Rattle.pages.specs.Meaning.{Within, entry, Walked}
 use Rattle.pages.proofs.Meaning.{mapped-exactly, found-by-walk}
 use Rattle.mle.specs.declared.Image.{Image}
 use Rattle.mle.specs.Image.{addressAt, addressesFrom, bytesFrom, imageDigest}
@@ -136,7 +139,11 @@ module _ (i : Input) (places : List ℕ) (b : Bytes (i .window)) (told : length 
         ascend = λ j k x y. rw (page-is j (omega arith), page-is k y) (walked .rising j k x y);
         apart = λ j k x y z. rw (page-is j x, page-is k y) (walked .apart j k x y z);
         inside = λ k x. rw (page-is k x) (walked .inside k x);
-        protected = λ k x. rw (page-is k x) (walked .protected k x);
+        protected = some-map (λ (r : Range). (k : ℕ) → k < N i → Within (pageOf (addressOf (entry w (memory i) (os i .«page_table_base») Page (first + k)))) r)
+            (λ (r : Range). (k : ℕ) → k < N i → Within (pageOf (page i places k)) r)
+            (λ r h k x. rw (page-is k x) (h k x))
+            (regions (memory i))
+            (walked .protected);
         digest = digest;
         anyList = any-list;
         lowest = lowest;

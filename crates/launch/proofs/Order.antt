@@ -16,10 +16,9 @@ use Rattle.sinit.specs.Rules as sinit
 use Rattle.pages.specs.declared.Kind.{Kind}
 use Rattle.pages.specs.declared.Kind.the-variants.{Pointer, Directory, Page}
 use Rattle.pages.specs.declared.Memory.{Memory}
-use Rattle.pages.specs.declared.levels.State.{State}
 use Rattle.pages.specs.Memory.{windowOf}
 use Rattle.pages.specs.Tables as tables
-use Rattle.pages.specs.Rules.{startOf, afterEntry, baseRules, entryRules, rulesFrom, walkRules}
+use Rattle.pages.specs.Rules.{State, startOf, afterEntry, baseRules, entryRules, rulesFrom, walkRules}
 use Rattle.policy_record.specs.Record.{policyType, LIST, recordRules}
 use Rattle.decision.specs.Answers.{fileRules}
 use Rattle.launch.specs.declared.Found.{Found}
@@ -95,8 +94,8 @@ unfolding walkRules ascend
 walk-group w m t =
     let window = windowOf w (m .window) in
     let base = baseRules window m t in
-    let entries = rulesFrom window m (startOf t) (tables.found w (m .window) t) in
-    let numbers = every-append _ base entries (group 14 20 base refl .numbers) (entries-numbers window m (startOf t) (tables.found w (m .window) t)) in
+    let entries = rulesFrom window m (startOf m t) (tables.found w (m .window) t) in
+    let numbers = every-append _ base entries (group 14 20 base refl .numbers) (entries-numbers window m (startOf m t) (tables.found w (m .window) t)) in
     record { numbers = numbers; order = walk-order (base ++ entries) numbers }
 
 -- THE OTHER GROUPS

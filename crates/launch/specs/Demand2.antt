@@ -5,6 +5,7 @@ use mathlib.Core.Path.{_≡_}
 use mathlib.Core.Logic.{_↔_, _≢_}
 use mathlib.Core.List.{List, flatMap}
 use lib.ListN.{length, take, drop, getD}
+use Rattle.range.specs.declared.Range.{Range}
 use Rattle.range.specs.Range.{pageSize}
 use Rattle.field.specs.Number.{Bytes}
 use Rattle.sha256.specs.Message.{sha256}
@@ -46,9 +47,9 @@ module _ (i : Input) (places : List ℕ) where
     -- they ascend strictly and do not overlap
     pub ascend : (j k : ℕ) → j < k → k < N i → page j < page k
     pub apart : (j k : ℕ) → j < N i → k < N i → j ≢ k → Apart (pageOf (page j)) (pageOf (page k))
-    -- each lies in the window, and wholly in one of the regions that are protected against DMA
+    -- each lies in the window, and one of the regions that are protected against DMA holds them all
     pub inside : (k : ℕ) → k < N i → Within (pageOf (page k)) (windowOf (i .window) (i .platform .«window_base»))
-    pub protected : (k : ℕ) → k < N i → Some (Within (pageOf (page k))) (regions (memory i))
+    pub protected : Some (λ (r : Range). (k : ℕ) → k < N i → Within (pageOf (page k)) r) (regions (memory i))
     -- the digest is that of their bytes, joined
     pub digest : answerOf i .digest ≡ sha256 (flatMap memoryAt (take (N i) (placesOf i places)))
     -- "Under ANY the list is 255"; under LIST it permits this digest, and no lower one does

@@ -15,11 +15,10 @@ use Rattle.range.proofs.Ranges.{inside-exactly, clear-exactly}
 use Rattle.pages.specs.declared.Kind.{Kind}
 use Rattle.pages.specs.declared.Kind.the-variants.{Pointer, Directory, Page}
 use Rattle.pages.specs.declared.Memory.{Memory}
-use Rattle.pages.specs.declared.levels.State.{State}
 use Rattle.pages.specs.Entry.{addressOf}
-use Rattle.pages.specs.Memory.{pageOf, windowOf, forbidden, regions, allowed, protected}
+use Rattle.pages.specs.Memory.{pageOf, windowOf, forbidden, allowed, protected}
 use Rattle.pages.specs.Tables.{Found, found}
-use Rattle.pages.specs.Rules.{startOf, afterEntry, baseRules, ownRules, entryRules, rulesFrom, walkRules}
+use Rattle.pages.specs.Rules.{State, startOf, afterEntry, baseRules, ownRules, entryRules, rulesFrom, walkRules}
 use Rattle.pages.specs.Meaning.{Within, Apart, Reserved, Placed, baseMeanings, ownMeanings, entryMeanings, meaningsFrom, walkMeanings}
 use Rattle.pages.proofs.Tests.{follows-exactly}
 use Rattle.pages.proofs.Bits.{reserved-exactly}
@@ -29,9 +28,13 @@ use Rattle.pages.proofs.Bits.{reserved-exactly}
 within-exactly : (a b : Range) → 0 < a .size → (insideOf a b ≡ true) ↔ Within a b
 within-exactly a b z = (inside-exactly a b .0, inside-exactly a b .1 z)
 
-pub protected-exactly : (m : Memory) (a : ℕ) → (protected m a ≡ true) ↔ Some (Within (pageOf a)) (regions m)
+-- a page has bytes, so the test says that each of them is in the region
+pub page-within : (a : ℕ) (r : Range) → (insideOf (pageOf a) r ≡ true) ↔ Within (pageOf a) r
+page-within a r = within-exactly (pageOf a) r (lit< tt)
+
+protected-exactly : (rs : List Range) (a : ℕ) → (protected rs a ≡ true) ↔ Some (Within (pageOf a)) rs
 unfolding protected
-protected-exactly m a = any-exactly (insideOf (pageOf a)) (Within (pageOf a)) (λ r. within-exactly (pageOf a) r (lit< tt)) (regions m)
+protected-exactly rs a = any-exactly (insideOf (pageOf a)) (Within (pageOf a)) (page-within a) rs
 
 allowed-exactly : (m : Memory) (a : ℕ) → (allowed m a ≡ true) ↔ Every (Apart (pageOf a)) (forbidden m)
 unfolding allowed
@@ -40,15 +43,15 @@ allowed-exactly m a = every-exactly (clearOf (pageOf a)) (Apart (pageOf a)) (cle
 -- RULES AND MEANINGS
 
 module _ (window : Range) (m : Memory) where
-  own-agree : (k : Kind) (s : State) (l a : ℕ) → Agree (ownRules k m s l a) (ownMeanings k m s l a)
+  own-agree : (k : Kind) (s : State) (l a : ℕ) → Agree (ownRules k s l a) (ownMeanings k s l a)
   own-agree Pointer s l a = (agrees (lit< tt) (ltb-exactly _ _), tt)
   own-agree Directory s l a = (agrees (lit< tt) (ltb-exactly _ _), tt)
-  own-agree Page s l a = (agrees (lit< tt) (follows-exactly s l), (agrees (lit< tt) (protected-exactly m a), tt))
+  own-agree Page s l a = (agrees (lit< tt) (follows-exactly (s .first) (s .count) l), (agrees (lit< tt) (protected-exactly (s .common) a), tt))
 
   pub entry-agree : (k : Kind) (s : State) (l e : ℕ) → Agree (entryRules k window m s l e) (entryMeanings k window m s l e)
   entry-agree k s l e =
       agrees (lit< tt) (reserved-exactly k e)
-      & agrees (lit< tt) (within-exactly (pageOf (addressOf e)) window (lit< tt))
+      & agrees (lit< tt) (page-within (addressOf e) window)
       & agrees (lit< tt) (ltb-exactly _ _)
       & agrees (lit< tt) (allowed-exactly m (addressOf e))
       & own-agree k s l (addressOf e)
@@ -66,7 +69,7 @@ module _ (window : Range) (m : Memory) where
   pub base-agree : (t : ℕ) → Agree (baseRules window m t) (baseMeanings window m t)
   base-agree t =
       agrees (lit< tt) (eqb-exactly _ _)
-      & agrees (lit< tt) (within-exactly (pageOf t) window (lit< tt))
+      & agrees (lit< tt) (page-within t window)
       & agrees (lit< tt) (allowed-exactly m t)
       & tt
 
@@ -77,10 +80,10 @@ module _ (w : List ℕ) (m : Memory) (t : ℕ) where
   pub walk-agree : Agree (walkRules w m t) (walkMeanings w m t)
   unfolding walkRules
   walk-agree =
-      agree-append (baseRules window m t) (rulesFrom window m (startOf t) (found w (m .window) t)) (baseMeanings window m t)
-      (meaningsFrom window m (startOf t) (found w (m .window) t))
+      agree-append (baseRules window m t) (rulesFrom window m (startOf m t) (found w (m .window) t)) (baseMeanings window m t)
+      (meaningsFrom window m (startOf m t) (found w (m .window) t))
       (base-agree window m t)
-      (from-agree window m (startOf t) (found w (m .window) t))
+      (from-agree window m (startOf m t) (found w (m .window) t))
 
   -- rules 14, 15 and 17
   pub record Sound (k : Kind) (e : ℕ) : Type 0 where
@@ -91,7 +94,7 @@ module _ (w : List ℕ) (m : Memory) (t : ℕ) where
   pub record Fine (k : Kind) (s : State) (l e : ℕ) : Type 0 where
     pub sound : Sound k e
     pub above : s .last < addressOf e
-    pub own : AllSay (ownMeanings k m s l (addressOf e))
+    pub own : AllSay (ownMeanings k s l (addressOf e))
 
   pub fine-exactly : (k : Kind) (s : State) (l e : ℕ) → AllHold (entryRules k window m s l e) ↔ Fine k s l e
   fine-exactly k s l e =

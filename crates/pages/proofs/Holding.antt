@@ -1,32 +1,28 @@
 -- Where no rule of the walk fails, the entries that are present obey all of them, and what was found is what there is.
 use Prim.Native.Nat.{ℕ, suc, _+_, _≤_, _<_}
 use mathlib.Core.Path.{_≡_, refl, sym, _∙_}
-use mathlib.Core.Logic.{⊎-elim}
+use mathlib.Core.Logic.{inl, ⊎-elim}
 use mathlib.Core.Bool.{Bool, true, false, cond, true≢false}
 use mathlib.Core.List.{List}
 use native.Mathlib.Omega.{arith}
-use borrow.Author.Count.{below-more}
 use borrow.Author.Tests.{eqb-true, eqb-false}
 use lib.Dec.{eqb}
 use Rattle.rules.specs.Rules.{Some, AllHold}
 use Rattle.rules.specs.Meaning.{AllSay}
+use Rattle.rules.proofs.Tests.{some-map}
 use Rattle.pages.specs.declared.Kind.{Kind}
 use Rattle.pages.specs.declared.Kind.the-variants.{Pointer, Directory, Page}
 use Rattle.pages.specs.declared.Memory.{Memory}
-use Rattle.pages.specs.declared.levels.State.{State}
 use Rattle.pages.specs.Entry.{presentOf, addressOf}
-use Rattle.pages.specs.Memory.{regions}
+use Rattle.pages.specs.Memory.{regions, holding}
 use Rattle.pages.specs.Tables.{levelSize, foundFrom}
-use Rattle.pages.specs.Rules.{mostTables, startOf, afterTable, afterPage, after, afterAll, entryRules, rulesFrom, walkRules, endState}
-use Rattle.pages.specs.Meaning.{Within, position, presentBelow, entry, Present, named, ownMeanings, Walks}
+use Rattle.pages.specs.Rules.{State, mostTables, startOf, afterTable, afterPage, after, afterAll, entryRules, rulesFrom, walkRules, endState}
+use Rattle.pages.specs.Meaning.{Within, position, presentBelow, entry, Present, named, HoldsPages, ownMeanings, Walks}
 use Rattle.pages.proofs.Found.{below-none, below-present, below-absent, in-level}
 use Rattle.pages.proofs.Conditions.{window, Sound, Fine, fine-exactly, base-exactly}
+use Rattle.pages.proofs.Regions.{upto, Holds, common, common-absent, common-next, held-next}
 use Rattle.pages.proofs.Invariants.{kept}
 use Rattle.pages.proofs.Stages.{afterPointers, afterDirectories, Stages, stages, end-state}
-
--- what holds below a number, and of it
-upto : (P : ℕ → Type 0) (n : ℕ) → ((i : ℕ) → i < n → P i) → P n → (i : ℕ) → i < suc n → P i
-upto P n below here i h = below-more P n below here i (omega arith)
 
 module _ (w : List ℕ) (m : Memory) (t : ℕ) where
   -- what is known of the entries with numbers below l, where the level began after the address a
@@ -75,13 +71,14 @@ module _ (w : List ℕ) (m : Memory) (t : ℕ) where
   -- A LEVEL OF TABLES, with n tables before it
 
   module _ (k : Kind) (table : (s : State) (l a : ℕ) → after k s l a ≡ afterTable s a)
-      (room : (s : State) (l a : ℕ) → AllSay (ownMeanings k m s l a) → s .tables < mostTables) (a n : ℕ) where
+      (room : (s : State) (l a : ℕ) → AllSay (ownMeanings k s l a) → s .tables < mostTables) (a n : ℕ) where
     record Tables (s : State) (l : ℕ) : Type 0 where
       pub passed : Passed k a (s .last) l
       pub tables : s .tables ≡ n + presentBelow (entry w m t k) l
       pub most : s .tables ≤ mostTables
       pub first : s .first ≡ 0
       pub count : s .count ≡ 0
+      pub all : s .common ≡ regions m
 
     tables-absent : (s : State) (l : ℕ) → Tables s l → presentOf (entry w m t k l) ≡ false → Tables s (suc l)
     tables-absent s l h e =
@@ -91,6 +88,7 @@ module _ (w : List ℕ) (m : Memory) (t : ℕ) where
           most = h .most;
           first = h .first;
           count = h .count;
+          all = h .all;
         }
 
     tables-next : (s : State) (l : ℕ) → Tables s l → Present w m t k l → AllHold (entryRules k (window w m t) m s l (entry w m t k l))
@@ -104,14 +102,22 @@ module _ (w : List ℕ) (m : Memory) (t : ℕ) where
           most = omega (arith, room s l (addressOf (entry w m t k l)) (g .own));
           first = h .first;
           count = h .count;
+          all = h .all;
         })
 
-    tables-end : (s : State) → s .last ≡ a → s .tables ≡ n → n ≤ mostTables → s .first ≡ 0 → s .count ≡ 0
+    tables-end : (s : State) → s .last ≡ a → s .tables ≡ n → n ≤ mostTables → s .first ≡ 0 → s .count ≡ 0 → s .common ≡ regions m
         → AllHold (rulesFrom (window w m t) m s (foundFrom k (entry w m t k) 0 (levelSize k)))
         → Tables (afterAll s (foundFrom k (entry w m t k) 0 (levelSize k))) (levelSize k)
-    tables-end s q e b f c h =
+    tables-end s q e b f c g h =
         let o : 0 + levelSize k ≡ levelSize k = omega arith in
-        let none : Tables s 0 = record { passed = rw q (passed-none k a); tables = omega (arith, below-none (entry w m t k)); most = omega arith; first = f; count = c } in
+        let none : Tables s 0 = record {
+          passed = rw q (passed-none k a);
+          tables = omega (arith, below-none (entry w m t k));
+          most = omega arith;
+          first = f;
+          count = c;
+          all = g;
+        } in
         rw o at (kept k (window w m t) m (entry w m t k) Tables tables-absent tables-next (levelSize k) s 0 none h)
 
   -- THE LEVEL OF PAGES
@@ -122,7 +128,8 @@ module _ (w : List ℕ) (m : Memory) (t : ℕ) where
       pub present : (i : ℕ) → s .first ≤ i → i < s .first + s .count → Present w m t Page i
       pub only : (i : ℕ) → i < l → Present w m t Page i → (s .first ≤ i) × (i < s .first + s .count)
       pub noPage : s .count ≡ 0 → s .first ≡ 0
-      pub protected : (i : ℕ) → i < l → Present w m t Page i → Some (Within (named w m t Page i)) (regions m)
+      pub left : s .common ≡ common w m t l
+      pub protected : Some (Holds w m t l) (regions m)
 
     pages-absent : (s : State) (l : ℕ) → Pages s l → presentOf (entry w m t Page l) ≡ false → Pages s (suc l)
     pages-absent s l h e =
@@ -131,7 +138,11 @@ module _ (w : List ℕ) (m : Memory) (t : ℕ) where
           present = h .present;
           only = upto (λ (i : ℕ). Present w m t Page i → (s .first ≤ i) × (i < s .first + s .count)) l (h .only) (λ p. never p);
           noPage = h .noPage;
-          protected = upto (λ (i : ℕ). Present w m t Page i → Some (Within (named w m t Page i)) (regions m)) l (h .protected) (λ p. never p);
+          left = common-absent w m t (s .common) l (h .left) e;
+          protected = some-map (Holds w m t l) (Holds w m t (suc l))
+              (λ r x. upto (λ (i : ℕ). Present w m t Page i → Within (named w m t Page i) r) l x (λ p. never p))
+              (regions m)
+              (h .protected);
         }
       where
         never : {A : Type 0} → Present w m t Page l → A
@@ -147,7 +158,7 @@ module _ (w : List ℕ) (m : Memory) (t : ℕ) where
         -- with a first page b and n pages before this one
         with-first : (b n : ℕ) → l ≡ b + n → ((i : ℕ) → b ≤ i → i < l → Present w m t Page i)
             → ((i : ℕ) → i < l → Present w m t Page i → (b ≤ i) × (i < b + n))
-            → Pages (record { last = addressOf (entry w m t Page l); tables = s .tables; first = b; count = n + 1 }) (suc l)
+            → Pages (record { last = addressOf (entry w m t Page l); tables = s .tables; first = b; count = n + 1; common = holding (s .common) (addressOf (entry w m t Page l)) }) (suc l)
         with-first b n q p o =
             record {
               passed = passed-next Page a (s .last) l (h .passed) (g .sound) (g .above);
@@ -156,12 +167,12 @@ module _ (w : List ℕ) (m : Memory) (t : ℕ) where
                   (λ i x u. let v = o i x u in omega arith)
                   (λ u. omega arith);
               noPage = λ z. absurd (omega arith);
-              protected = upto (λ (i : ℕ). Present w m t Page i → Some (Within (named w m t Page i)) (regions m)) l (h .protected)
-                  (λ p. g .own .1 .0);
+              left = common-next w m t (s .common) l (h .left) e;
+              protected = held-next w m t l (rw (h .left) at (g .own .1 .0));
             }
 
         by : (none : Bool) → eqb (s .count) 0 ≡ none
-            → Pages (record { last = addressOf (entry w m t Page l); tables = s .tables; first = cond none l (s .first); count = s .count + 1 }) (suc l)
+            → Pages (record { last = addressOf (entry w m t Page l); tables = s .tables; first = cond none l (s .first); count = s .count + 1; common = holding (s .common) (addressOf (entry w m t Page l)) }) (suc l)
         by true z =
             let c : s .count ≡ 0 = eqb-true _ _ z in
             with-first l (s .count) (omega arith) (λ i x y. absurd (omega arith)) (λ i x u. let v = h .only i x u in absurd (omega arith))
@@ -169,17 +180,18 @@ module _ (w : List ℕ) (m : Memory) (t : ℕ) where
             let q : l ≡ s .first + s .count = ⊎-elim (λ c. absurd (eqb-false _ _ z c)) (λ q. q) (g .own .0) in
             with-first (s .first) (s .count) q (λ i x y. h .present i x (omega arith)) (h .only)
 
-    pages-end : (s : State) → s .last ≡ a → s .first ≡ 0 → s .count ≡ 0
+    pages-end : (s : State) → s .last ≡ a → s .first ≡ 0 → s .count ≡ 0 → s .common ≡ regions m
         → AllHold (rulesFrom (window w m t) m s (foundFrom Page (entry w m t Page) 0 (levelSize Page)))
         → Pages (afterAll s (foundFrom Page (entry w m t Page) 0 (levelSize Page))) (levelSize Page)
-    pages-end s q f c h =
+    pages-end s q f c g h =
         let o : 0 + levelSize Page ≡ levelSize Page = omega arith in
         let none : Pages s 0 = record {
           passed = rw q (passed-none Page a);
           present = λ i x y. absurd (omega arith);
           only = λ i x. absurd (omega arith);
           noPage = λ z. f;
-          protected = λ i x. absurd (omega arith);
+          left = g;
+          protected = inl (λ i x. absurd (omega arith));
         } in
         rw o at (kept Page (window w m t) m (entry w m t Page) Pages pages-absent pages-next (levelSize Page) s 0 none h)
 
@@ -189,11 +201,11 @@ module _ (w : List ℕ) (m : Memory) (t : ℕ) where
     hold : Stages w m t
     hold = stages w m t .0 h
 
-    full : (s : State) (l a : ℕ) → AllSay (ownMeanings Pointer m s l a) → s .tables < mostTables
+    full : (s : State) (l a : ℕ) → AllSay (ownMeanings Pointer s l a) → s .tables < mostTables
     full s l a r = r .0
 
     first : Tables Pointer (λ s l a. refl) full t 1 (afterPointers w m t) (levelSize Pointer)
-    first = tables-end Pointer (λ s l a. refl) full t 1 (startOf t) refl refl (omega arith) refl refl (hold .pointers)
+    first = tables-end Pointer (λ s l a. refl) full t 1 (startOf m t) refl refl (omega arith) refl refl refl (hold .pointers)
 
     second : Tables Directory (λ s l a. refl) full (afterPointers w m t .last) (afterPointers w m t .tables) (afterDirectories w m t) (levelSize Directory)
     second =
@@ -201,12 +213,13 @@ module _ (w : List ℕ) (m : Memory) (t : ℕ) where
         (first .most)
         (first .first)
         (first .count)
+        (first .all)
         (hold .directories)
 
     third : Pages (afterDirectories w m t .last) (endState w m t) (levelSize Page)
     third =
         rw (end-state w m t)
-        (pages-end (afterDirectories w m t .last) (afterDirectories w m t) refl (second .first) (second .count) (hold .pages))
+        (pages-end (afterDirectories w m t .last) (afterDirectories w m t) refl (second .first) (second .count) (second .all) (hold .pages))
 
     inLevel : (k : Kind) (l : ℕ) → Present w m t k l → l < levelSize k
     inLevel k l p = in-level w (m .window) t k l p
@@ -250,5 +263,8 @@ module _ (w : List ℕ) (m : Memory) (t : ℕ) where
           pages = third .present;
           only = λ l p. third .only l (inLevel Page l p) p;
           noPage = third .noPage;
-          protected = λ l p. third .protected l (inLevel Page l p) p;
+          protected = some-map (Holds w m t (levelSize Page)) (HoldsPages w m t)
+              (λ r x l p. x l (inLevel Page l p) p)
+              (regions m)
+              (third .protected);
         }

@@ -9,10 +9,9 @@ use Rattle.rules.specs.Rules.{AllHold}
 use Rattle.rules.proofs.Rules.{all-append}
 use Rattle.pages.specs.declared.Kind.{Kind}
 use Rattle.pages.specs.declared.Memory.{Memory}
-use Rattle.pages.specs.declared.levels.State.{State}
 use Rattle.pages.specs.Entry.{presentOf, addressOf}
 use Rattle.pages.specs.Tables.{Found, foundOf, foundFrom}
-use Rattle.pages.specs.Rules.{after, afterAll, entryRules, rulesFrom}
+use Rattle.pages.specs.Rules.{State, after, afterAll, entryRules, rulesFrom}
 
 module _ (k : Kind) (window : Range) (m : Memory) (f : ℕ → ℕ) (I : State → ℕ → Type 0)
     (absent : (s : State) (l : ℕ) → I s l → presentOf (f l) ≡ false → I s (suc l)) where

@@ -4,6 +4,8 @@ pub mod Bits
 pub mod Found
 pub mod Joined
 pub mod Conditions
+pub mod Kept
+pub mod Regions
 pub mod Tried
 pub mod Answer
 pub mod Invariants

@@ -1,31 +1,40 @@
 -- The walk maps pages exactly where all rules hold with them, refuses with the number of the first rule that fails, and what it maps lies where it may.
-use Prim.Native.Nat.{ℕ, zero, suc, _+_, _%_, _≤_, _<_}
+use Prim.Native.Nat.{ℕ, _+_, _%_, _<_}
 use mathlib.Core.Path.{_≡_, refl, sym}
 use mathlib.Core.Logic.{_↔_, _≢_}
 use mathlib.Core.Bool.{Bool, true, false}
-use mathlib.Core.List.{List}
 use native.Mathlib.Omega.{arith}
 use borrow.Author.Tests.{ltb-true, ltb-false}
 use lib.Dec.{ltb}
-use Rattle.range.specs.Range.{pageSize}
+use Rattle.range.specs.declared.Range.{Range}
+use Rattle.range.specs.Range.{insideOf, pageSize}
 use Rattle.rules.specs.Rules.{firstFailing}
 use Rattle.rules.proofs.Rules.{all-exactly}
+use Rattle.rules.proofs.Tests.{some-map}
+use Rattle.rules.proofs.Filter.{some-filter}
 use Rattle.rules.proofs.Answers.{number-of, value-exactly, number-exactly, number-means}
 use Rattle.pages.specs.declared.Kind.{Kind}
 use Rattle.pages.specs.declared.Kind.the-variants.{Pointer, Directory, Page}
-use Rattle.pages.specs.declared.Memory.{Memory}
-use Rattle.pages.specs.declared.levels.State.{State}
 use Rattle.pages.specs.declared.WalkAnswer.the-variants.{Mapped, Refused}
 use Rattle.pages.specs.Entry.{addressOf}
-use Rattle.pages.specs.Memory.{pageOf}
-use Rattle.pages.specs.Tables.{levelSize}
-use Rattle.pages.specs.Rules.{walkRules, endState, answerOf, walkOf, numberOf}
-use Rattle.pages.specs.Meaning.{Apart, position, entry, Present, named, Walks, walkMeanings, NumberIsFirst, MappedExactly, RefusedExactly, FoundByWalk}
+use Rattle.pages.specs.Memory.{pageOf, regions, holding}
+use Rattle.pages.specs.Rules.{State, walkRules, endState, answerOf, walkOf, numberOf}
+use Rattle.pages.specs.Meaning.{Within, Apart, position, entry, Present, named, HoldsPages, Walks, walkMeanings, HoldingMeans, NumberIsFirst, MappedExactly, RefusedExactly, FoundByWalk}
 use Rattle.pages.proofs.Found.{in-level}
-use Rattle.pages.proofs.Conditions.{walk-agree}
+use Rattle.pages.proofs.Conditions.{page-within, walk-agree}
 use Rattle.pages.proofs.Answer.{walk-numbered}
 use Rattle.pages.proofs.Holding.{walks}
 use Rattle.pages.proofs.Permits.{permits, walks-unique}
+
+-- WHAT IS LEFT
+
+pub holding-means : HoldingMeans
+unfolding holding
+holding-means rs a P =
+    let left = some-filter P (insideOf (pageOf a)) rs in
+    let as-test = some-map (λ (r : Range). (insideOf (pageOf a) r ≡ true) × P r) (λ (r : Range). Within (pageOf a) r × P r) (λ r h. (page-within a r .0 (h .0), h .1)) rs in
+    let by-test = some-map (λ (r : Range). Within (pageOf a) r × P r) (λ (r : Range). (insideOf (pageOf a) r ≡ true) × P r) (λ r h. (page-within a r .1 (h .0), h .1)) rs in
+    (λ h. as-test (left .0 h), λ h. left .1 (by-test h))
 
 -- AN ANSWER AND ITS NUMBER
 
@@ -92,7 +101,10 @@ found-by-walk w m t f n e = record {
   directories = λ k i x p. table Pointer k i x p (omega (arith, in-level w (m .window) t Pointer i p));
   pageTables = λ k i x p. table Directory k i x p (omega (arith, in-level w (m .window) t Directory i p));
   clear = λ k x. h .placed Page (f + k) (there k x) .clear;
-  protected = λ k x. h .protected (f + k) (there k x);
+  protected = some-map (HoldsPages w m t) (λ (r : Range). (k : ℕ) → k < n → Within (named w m t Page (f + k)) r)
+      (λ r x k y. x (f + k) (there k y))
+      (regions m)
+      (h .protected);
 }
   where
     h : Walks w m t f n

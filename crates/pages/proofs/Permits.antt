@@ -7,18 +7,19 @@ use mathlib.Core.List.{List}
 use native.Mathlib.Omega.{arith}
 use borrow.Author.Tests.{leb-true, leb-false, eq-eqb, ne-eqb}
 use lib.Dec.{leb, eqb}
-use Rattle.rules.specs.Rules.{AllHold}
+use Rattle.rules.specs.Rules.{Some, AllHold}
 use Rattle.rules.specs.Meaning.{AllSay}
 use Rattle.pages.specs.declared.Kind.{Kind}
 use Rattle.pages.specs.declared.Kind.the-variants.{Pointer, Directory, Page}
 use Rattle.pages.specs.declared.Memory.{Memory}
-use Rattle.pages.specs.declared.levels.State.{State}
 use Rattle.pages.specs.Entry.{presentOf, addressOf}
+use Rattle.pages.specs.Memory.{regions, holding}
 use Rattle.pages.specs.Tables.{levelSize}
-use Rattle.pages.specs.Rules.{mostTables, startOf, afterTable, afterPage, after, afterAll, entryRules, rulesFrom, walkRules}
-use Rattle.pages.specs.Meaning.{position, presentBelow, entry, Present, ownMeanings, Walks}
+use Rattle.pages.specs.Rules.{State, mostTables, startOf, afterTable, afterPage, after, afterAll, entryRules, rulesFrom, walkRules}
+use Rattle.pages.specs.Meaning.{Within, position, presentBelow, entry, Present, named, ownMeanings, Walks}
 use Rattle.pages.proofs.Found.{below-none, below-present, below-absent, below-more}
 use Rattle.pages.proofs.Conditions.{window, fine-exactly, base-exactly}
+use Rattle.pages.proofs.Regions.{common, common-absent, common-next, held-all}
 use Rattle.pages.proofs.Invariants.{passes}
 use Rattle.pages.proofs.Stages.{level, afterPointers, afterDirectories, stages}
 
@@ -35,7 +36,7 @@ module _ (w : List ℕ) (m : Memory) (t f n : ℕ) (h : Walks w m t f n) where
   Ahead s p = (k : Kind) (l : ℕ) → p ≤ position k l → Present w m t k l → s .last < addressOf (entry w m t k l)
 
   -- an entry obeys all rules where it obeys those of its kind
-  entry-holds : (k : Kind) (s : State) (l : ℕ) → Ahead s (position k l) → Present w m t k l → AllSay (ownMeanings k m s l (addressOf (entry w m t k l)))
+  entry-holds : (k : Kind) (s : State) (l : ℕ) → Ahead s (position k l) → Present w m t k l → AllSay (ownMeanings k s l (addressOf (entry w m t k l)))
       → AllHold (entryRules k (window w m t) m s l (entry w m t k l))
   entry-holds k s l a p o =
       fine-exactly w m t k s l (entry w m t k l) .1
@@ -44,16 +45,17 @@ module _ (w : List ℕ) (m : Memory) (t f n : ℕ) (h : Walks w m t f n) where
   -- A LEVEL OF TABLES, with b tables before it
 
   module _ (k : Kind) (table : (s : State) (l a : ℕ) → after k s l a ≡ afterTable s a)
-      (own : (s : State) (l a : ℕ) → s .tables < mostTables → AllSay (ownMeanings k m s l a)) (b : ℕ)
+      (own : (s : State) (l a : ℕ) → s .tables < mostTables → AllSay (ownMeanings k s l a)) (b : ℕ)
       (most : b + presentBelow (entry w m t k) (levelSize k) ≤ mostTables) where
     record Tables (s : State) (l : ℕ) : Type 0 where
       pub ahead : Ahead s (position k l)
       pub tables : s .tables ≡ b + presentBelow (entry w m t k) l
       pub count : s .count ≡ 0
+      pub all : s .common ≡ regions m
 
     tables-absent : (s : State) (l : ℕ) → Tables s l → presentOf (entry w m t k l) ≡ false → Tables s (suc l)
     tables-absent s l i e =
-        record { ahead = λ j x q p. i .ahead j x (omega arith) p; tables = rw (below-absent (entry w m t k) l e) (i .tables); count = i .count }
+        record { ahead = λ j x q p. i .ahead j x (omega arith) p; tables = rw (below-absent (entry w m t k) l e) (i .tables); count = i .count; all = i .all }
 
     tables-next : (s : State) (l : ℕ) → l < levelSize k → Tables s l → Present w m t k l
         → AllHold (entryRules k (window w m t) m s l (entry w m t k l)) × Tables (after k s l (addressOf (entry w m t k l))) (suc l)
@@ -63,14 +65,14 @@ module _ (w : List ℕ) (m : Memory) (t f n : ℕ) (h : Walks w m t f n) where
         let one = below-present (entry w m t k) l p in (
           entry-holds k s l (i .ahead) p (own s l _ (omega (arith, i .tables))),
           rw (table s l (addressOf (entry w m t k l)))
-              (record { ahead = λ j x q g. h .rising k j l x p g (omega arith); tables = omega (arith, i .tables); count = i .count }),
+              (record { ahead = λ j x q g. h .rising k j l x p g (omega arith); tables = omega (arith, i .tables); count = i .count; all = i .all }),
         )
 
-    tables-pass : (s : State) → Ahead s (position k 0) → s .tables ≡ b → s .count ≡ 0
+    tables-pass : (s : State) → Ahead s (position k 0) → s .tables ≡ b → s .count ≡ 0 → s .common ≡ regions m
         → AllHold (rulesFrom (window w m t) m s (level w m t k)) × Tables (afterAll s (level w m t k)) (levelSize k)
-    tables-pass s a e c =
+    tables-pass s a e c g =
         let o : 0 + levelSize k ≡ levelSize k = omega arith in
-        let none : Tables s 0 = record { ahead = a; tables = omega (arith, below-none (entry w m t k)); count = c } in
+        let none : Tables s 0 = record { ahead = a; tables = omega (arith, below-none (entry w m t k)); count = c; all = g } in
         rw o at (passes k (window w m t) m (entry w m t k) Tables tables-absent (levelSize k) tables-next (levelSize k) s 0 (omega arith) none)
 
   -- THE LEVEL OF PAGES
@@ -79,6 +81,7 @@ module _ (w : List ℕ) (m : Memory) (t f n : ℕ) (h : Walks w m t f n) where
     pub ahead : Ahead s (position Page l)
     pub before : l ≤ f → s .count ≡ 0
     pub inside : f < l → l ≤ f + n → (s .first ≡ f) × (s .count ≡ l - f)
+    pub left : s .common ≡ common w m t l
 
   pages-absent : (s : State) (l : ℕ) → Pages s l → presentOf (entry w m t Page l) ≡ false → Pages s (suc l)
   pages-absent s l i e =
@@ -86,6 +89,7 @@ module _ (w : List ℕ) (m : Memory) (t f n : ℕ) (h : Walks w m t f n) where
         ahead = λ j x q p. i .ahead j x (omega arith) p;
         before = λ q. i .before (omega arith);
         inside = λ a b. absurd (true≢false (sym (h .pages l (omega arith) (omega arith)) ∙ e));
+        left = common-absent w m t (s .common) l (i .left) e;
       }
 
   pages-next : (s : State) (l : ℕ) → l < levelSize Page → Pages s l → Present w m t Page l
@@ -98,46 +102,56 @@ module _ (w : List ℕ) (m : Memory) (t f n : ℕ) (h : Walks w m t f n) where
       ahead : Ahead (afterPage s l (addressOf (entry w m t Page l))) (position Page (suc l))
       ahead j x q g = h .rising Page j l x p g (omega arith)
 
+      left : holding (s .common) (addressOf (entry w m t Page l)) ≡ common w m t (suc l)
+      left = common-next w m t (s .common) l (i .left) p
+
+      protected : Some (Within (named w m t Page l)) (s .common)
+      protected = rw (i .left) (held-all w m t (h .protected) l p)
+
       by : (x : Bool) → leb l f ≡ x
           → AllHold (entryRules Page (window w m t) m s l (entry w m t Page l)) × Pages (afterPage s l (addressOf (entry w m t Page l))) (suc l)
       by true q =
           let le = leb-true l f q in
           let c = i .before le in (
-            entry-holds Page s l (i .ahead) p (inl c, (h .protected l p, tt)),
+            entry-holds Page s l (i .ahead) p (inl c, (protected, tt)),
             record {
               ahead = ahead;
               before = λ x. absurd (omega (arith, u));
               inside = λ x y. (first-page (s .count) l (s .first) c ∙ omega (arith, u), omega (arith, u));
+              left = left;
             },
           )
       by false q =
           let lt = leb-false l f q in
           let c = i .inside lt (omega (arith, u)) in (
-            entry-holds Page s l (i .ahead) p (inr (omega (arith, c .0, c .1)), (h .protected l p, tt)),
+            entry-holds Page s l (i .ahead) p (inr (omega (arith, c .0, c .1)), (protected, tt)),
             record {
               ahead = ahead;
               before = λ x. absurd (omega (arith, u));
               inside = λ x y. (later-page (s .count) l (s .first) (λ z. omega (arith, c .1)) ∙ c .0, omega (arith, c .1));
+              left = left;
             },
           )
 
   -- ALL LEVELS
 
-  room : (s : State) (l a : ℕ) → s .tables < mostTables → AllSay (ownMeanings Pointer m s l a)
+  room : (s : State) (l a : ℕ) → s .tables < mostTables → AllSay (ownMeanings Pointer s l a)
   room s l a x = (x, tt)
 
   pub permits : AllHold (walkRules w m t)
   permits =
-      let a = tables-pass Pointer (λ s l a. refl) room 1 (omega (arith, h .tables)) (startOf t) (λ k l q p. h .above k l p) refl refl in
+      let a = tables-pass Pointer (λ s l a. refl) room 1 (omega (arith, h .tables)) (startOf m t) (λ k l q p. h .above k l p) refl refl refl in
       let b =
       tables-pass Directory (λ s l a. refl) room (1 + presentBelow (entry w m t Pointer) (levelSize Pointer)) (h .tables) (afterPointers w m t)
       (λ k l q p. a .1 .ahead k l (omega arith) p)
       (a .1 .tables)
-      (a .1 .count) in
+      (a .1 .count)
+      (a .1 .all) in
       let start : Pages (afterDirectories w m t) 0 = record {
         ahead = λ k l q p. b .1 .ahead k l (omega arith) p;
         before = λ x. b .1 .count;
         inside = λ x. absurd (omega arith);
+        left = b .1 .all;
       } in
       stages w m t .1
       (record {

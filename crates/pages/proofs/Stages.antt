@@ -8,9 +8,8 @@ use Rattle.rules.proofs.Rules.{all-append}
 use Rattle.pages.specs.declared.Kind.{Kind}
 use Rattle.pages.specs.declared.Kind.the-variants.{Pointer, Directory, Page}
 use Rattle.pages.specs.declared.Memory.{Memory}
-use Rattle.pages.specs.declared.levels.State.{State}
 use Rattle.pages.specs.Tables.{Found, levelSize, foundFrom, foundIn, found}
-use Rattle.pages.specs.Rules.{startOf, afterAll, baseRules, rulesFrom, walkRules, endState}
+use Rattle.pages.specs.Rules.{State, startOf, afterAll, baseRules, rulesFrom, walkRules, endState}
 use Rattle.pages.specs.Meaning.{entry}
 use Rattle.pages.proofs.Tried.{rules-append, after-append}
 use Rattle.pages.proofs.Conditions.{window}
@@ -20,14 +19,14 @@ module _ (w : List ℕ) (m : Memory) (t : ℕ) where
   level k = foundFrom k (entry w m t k) 0 (levelSize k)
 
   abbrev pub afterPointers : State
-  afterPointers = afterAll (startOf t) (level Pointer)
+  afterPointers = afterAll (startOf m t) (level Pointer)
 
   abbrev pub afterDirectories : State
   afterDirectories = afterAll afterPointers (level Directory)
 
   pub record Stages : Type 0 where
     pub base : AllHold (baseRules (window w m t) m t)
-    pub pointers : AllHold (rulesFrom (window w m t) m (startOf t) (level Pointer))
+    pub pointers : AllHold (rulesFrom (window w m t) m (startOf m t) (level Pointer))
     pub directories : AllHold (rulesFrom (window w m t) m afterPointers (level Directory))
     pub pages : AllHold (rulesFrom (window w m t) m afterDirectories (level Page))
 
@@ -40,8 +39,8 @@ module _ (w : List ℕ) (m : Memory) (t : ℕ) where
   pub stages : AllHold (walkRules w m t) ↔ Stages
   unfolding walkRules found foundIn
   stages =
-      let base = all-append (baseRules (window w m t) m t) (rulesFrom (window w m t) m (startOf t) (found w (m .window) t)) in
-      let first = two (startOf t) (level Pointer) (level Directory ++ level Page) in
+      let base = all-append (baseRules (window w m t) m t) (rulesFrom (window w m t) m (startOf m t) (found w (m .window) t)) in
+      let first = two (startOf m t) (level Pointer) (level Directory ++ level Page) in
       let second = two afterPointers (level Directory) (level Page) in (
         λ h.
             let a = base .0 h in
@@ -53,4 +52,4 @@ module _ (w : List ℕ) (m : Memory) (t : ℕ) where
 
   pub end-state : endState w m t ≡ afterAll afterDirectories (level Page)
   unfolding endState found foundIn
-  end-state = after-append (startOf t) (level Pointer) (level Directory ++ level Page) ∙ after-append afterPointers (level Directory) (level Page)
+  end-state = after-append (startOf m t) (level Pointer) (level Directory ++ level Page) ∙ after-append afterPointers (level Directory) (level Page)

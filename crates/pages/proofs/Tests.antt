@@ -12,7 +12,6 @@ use Rattle.range.specs.Range.{insideOf}
 use Rattle.rules.proofs.Tests.{eqb-exactly, or-exactly}
 use Rattle.pages.specs.declared.Kind.{Kind}
 use Rattle.pages.specs.declared.Kind.the-variants.{Pointer, Directory, Page}
-use Rattle.pages.specs.declared.levels.State.{State}
 use Rattle.pages.specs.Entry.{zeros, reservedClear}
 use Rattle.pages.specs.Memory.{pageOf, windowOf}
 use Rattle.pages.specs.Tables.{readOf}
@@ -62,24 +61,24 @@ eqb-iff a b c d f g = by (eqb a b) refl
     by true e = sym (eq-eqb c d (f (eqb-true a b e)))
     by false e = sym (ne-eqb c d (λ h. eqb-false a b e (g h)))
 
-module _ (s : State) (l : ℕ) where
-  pub follows-first : s .count ≡ 0 → true ≡ follows s l
+module _ (first count l : ℕ) where
+  pub follows-first : count ≡ 0 → true ≡ follows first count l
   unfolding follows
-  follows-first h = simp (eq-eqb (s .count) 0 h)
+  follows-first h = simp (eq-eqb count 0 h)
 
-  pub follows-before : (s .count ≡ 0 → ⊥) → l < s .first → false ≡ follows s l
+  pub follows-before : (count ≡ 0 → ⊥) → l < first → false ≡ follows first count l
   unfolding follows
-  follows-before h g = simp (ne-eqb (s .count) 0 h, ne-eqb l (s .first + s .count) (λ e. omega arith))
+  follows-before h g = simp (ne-eqb count 0 h, ne-eqb l (first + count) (λ e. omega arith))
 
-  pub follows-after : (s .count ≡ 0 → ⊥) → s .first ≤ l → eqb (l - s .first) (s .count) ≡ follows s l
+  pub follows-after : (count ≡ 0 → ⊥) → first ≤ l → eqb (l - first) count ≡ follows first count l
   unfolding follows
   follows-after h g =
-      simp (ne-eqb (s .count) 0 h)
-      (eqb-iff (l - s .first) (s .count) l (s .first + s .count) (λ e. omega arith) (λ e. omega arith))
+      simp (ne-eqb count 0 h)
+      (eqb-iff (l - first) count l (first + count) (λ e. omega arith) (λ e. omega arith))
 
-pub follows-exactly : (s : State) (l : ℕ) → (follows s l ≡ true) ↔ ((s .count ≡ 0) ⊎ (l ≡ s .first + s .count))
-unfolding follows
-follows-exactly s l = or-exactly (eqb-exactly _ _) (eqb-exactly _ _)
+  pub follows-exactly : (follows first count l ≡ true) ↔ ((count ≡ 0) ⊎ (l ≡ first + count))
+  unfolding follows
+  follows-exactly = or-exactly (eqb-exactly _ _) (eqb-exactly _ _)
 
 -- ENTRIES
 

@@ -1,11 +1,12 @@
 -- Entries tried in turn: the number is that of the first rule that fails, of all rules in order, and where it is 0 what was found is what all entries leave.
-use Prim.Native.Nat.{ℕ, zero, suc, _+_, _*_}
+use Prim.Native.Nat.{ℕ, zero, suc, _+_, _*_, _<_}
 use mathlib.Core.Path.{_≡_, refl, sym, ap, _∙_}
 use mathlib.Core.Logic.{⊎-elim}
 use mathlib.Core.Bool.{true, false}
 use mathlib.Core.List.{List, [], _∷_, _++_, append-nil, append-assoc}
 use native.Mathlib.Omega.{arith}
 use Rattle.range.specs.declared.Range.{Range}
+use Rattle.range.specs.Range.{highestEnd}
 use Rattle.rules.specs.Rules.{firstFailing, orElse}
 use Rattle.rules.specs.Meaning.{AllSay}
 use Rattle.rules.proofs.Rules.{Numbered, or-else-number, or-else-none, or-else-order, or-else-zero, first-append}
@@ -14,12 +15,12 @@ use Rattle.pages.specs.declared.Kind.{Kind}
 use Rattle.pages.specs.declared.Kind.the-variants.{Pointer, Directory, Page}
 use Rattle.pages.specs.declared.Memory.{Memory}
 use Rattle.pages.specs.declared.levels.Run.{Run}
-use Rattle.pages.specs.declared.levels.State.{State}
+use Rattle.pages.specs.declared.levels.Progress.{Progress}
 use Rattle.pages.specs.Entry.{presentOf, addressOf}
 use Rattle.pages.specs.Tables.{Found, entries, directoryAt, pageAt, foundOf, foundOne, foundFrom}
-use Rattle.pages.specs.Rules.{after, afterEntry, afterAll, entryRules, rulesFrom}
+use Rattle.pages.specs.Rules.{State, after, afterEntry, afterAll, entryRules, rulesFrom}
 use Rattle.pages.specs.Meaning.{ownMeanings, entryMeanings, meaningsFrom}
-use Rattle.pages.specs.Inner.{Room, Tried}
+use Rattle.pages.specs.Inner.{stateOf, Ordered, Above, Leads, Room, Tried}
 use Rattle.pages.proofs.Found.{found-append, found-last}
 use Rattle.pages.proofs.Joined.{table-absent}
 use Rattle.pages.proofs.Conditions.{entry-agree, from-agree}
@@ -42,36 +43,44 @@ pub after-append : (s : State) (es fs : List Found) → afterAll s (es ++ fs) �
 after-append s [] fs = refl
 after-append s (e ∷ es) fs = after-append (afterEntry s e) es fs
 
+-- an address has 52 bits
+pub address-below : (e : ℕ) → addressOf e < highestEnd
+unfolding addressOf
+address-below e = omega arith
+
 -- ENTRIES TRIED
 
 module _ (window : Range) (m : Memory) where
+  abbrev at : Run → State
+  at r = stateOf m (r .progress)
+
   pub tried-none : (r : Run) → Tried window m r r []
   unfolding rulesFrom
-  tried-none r = record { number = or-else-none (r .number); state = λ z. refl }
+  tried-none r = record { ordered = λ o. o; number = or-else-none (r .number); state = λ z. refl }
 
   -- nothing more is tried after a rule has failed
   pub tried-refused : (r : Run) (es : List Found) → (r .number ≡ 0 → ⊥) → Tried window m r r es
-  tried-refused r es h = record { number = sym (or-else-number (r .number) _ (omega arith)); state = λ z. absurd (h z) }
+  tried-refused r es h = record { ordered = λ o. o; number = sym (or-else-number (r .number) _ (omega arith)); state = λ z. absurd (h z) }
 
   pub tried-then : (r s t : Run) (es fs : List Found) → Tried window m r s es → Tried window m s t fs → Tried window m r t (es ++ fs)
-  tried-then r s t es fs x y = record { number = number; state = state }
+  tried-then r s t es fs x y = record { ordered = λ o. y .ordered (x .ordered o); number = number; state = state }
     where
       first : ℕ
-      first = firstFailing (rulesFrom window m (r .state) es)
+      first = firstFailing (rulesFrom window m (at r) es)
 
       last : ℕ
-      last = firstFailing (rulesFrom window m (afterAll (r .state) es) fs)
+      last = firstFailing (rulesFrom window m (afterAll (at r) es) fs)
 
-      stages : firstFailing (rulesFrom window m (r .state) (es ++ fs)) ≡ orElse first last
+      stages : firstFailing (rulesFrom window m (at r) (es ++ fs)) ≡ orElse first last
       stages =
-          rw (rules-append window m (r .state) es fs)
-          (first-append (rulesFrom window m (r .state) es) (rulesFrom window m (afterAll (r .state) es) fs) (rules-numbered window m (r .state) es))
+          rw (rules-append window m (at r) es fs)
+          (first-append (rulesFrom window m (at r) es) (rulesFrom window m (afterAll (at r) es) fs) (rules-numbered window m (at r) es))
 
-      then-last : (n : ℕ) → s .number ≡ n → orElse n (firstFailing (rulesFrom window m (s .state) fs)) ≡ orElse n last
+      then-last : (n : ℕ) → s .number ≡ n → orElse n (firstFailing (rulesFrom window m (at s) fs)) ≡ orElse n last
       then-last zero e = rw (x .state e)
       then-last (suc n) e = refl
 
-      number : t .number ≡ orElse (r .number) (firstFailing (rulesFrom window m (r .state) (es ++ fs)))
+      number : t .number ≡ orElse (r .number) (firstFailing (rulesFrom window m (at r) (es ++ fs)))
       number =
           y .number
           ∙ then-last (s .number) refl
@@ -79,10 +88,10 @@ module _ (window : Range) (m : Memory) where
           ∙ or-else-order (r .number) first last
           ∙ ap (orElse (r .number)) (sym stages)
 
-      state : t .number ≡ 0 → t .state ≡ afterAll (r .state) (es ++ fs)
+      state : t .number ≡ 0 → at t ≡ afterAll (at r) (es ++ fs)
       state z =
-          let e = or-else-zero (s .number) (firstFailing (rulesFrom window m (s .state) fs)) .0 (sym (y .number) ∙ z) .0 in
-          y .state z ∙ rw (x .state e, after-append (r .state) es fs)
+          let e = or-else-zero (s .number) (firstFailing (rulesFrom window m (at s) fs)) .0 (sym (y .number) ∙ z) .0 in
+          y .state z ∙ rw (x .state e, after-append (at r) es fs)
 
   -- ONE ENTRY
 
@@ -95,24 +104,32 @@ module _ (window : Range) (m : Memory) where
     pub step-absent : presentOf e ≡ false → Tried window m r r (foundOne k l e)
     step-absent h = rw h (tried-none r)
 
-    pub step-fault : (n : ℕ) → r .number ≡ 0 → presentOf e ≡ true → n ≡ firstFailing (entryRules k window m (r .state) l e) → (n ≡ 0 → ⊥)
-        → Tried window m r (record { number = n; state = r .state }) (foundOne k l e)
+    pub step-fault : (n : ℕ) → r .number ≡ 0 → presentOf e ≡ true → n ≡ firstFailing (entryRules k window m (at r) l e) → (n ≡ 0 → ⊥)
+        → Tried window m r (record { number = n; progress = r .progress }) (foundOne k l e)
     step-fault n z h f stops =
-        rw h (record { number = rw (z, single k (r .state) l e) f; state = λ y. absurd (stops y) })
+        rw h (record { ordered = λ o. o; number = rw (z, single k (at r) l e) f; state = λ y. absurd (stops y) })
 
-    pub step-passed : (s : State) → r .number ≡ 0 → presentOf e ≡ true → firstFailing (entryRules k window m (r .state) l e) ≡ 0 → s ≡ after k (r .state) l (addressOf e)
-        → Tried window m r (record { number = 0; state = s }) (foundOne k l e)
-    step-passed s z h f q = rw h (record { number = rw (z, single k (r .state) l e) (sym f); state = λ y. q })
+    pub step-passed : (p : Progress) → r .number ≡ 0 → presentOf e ≡ true → firstFailing (entryRules k window m (at r) l e) ≡ 0
+        → Leads (λ (s : State). after k s l (addressOf e)) (r .progress) p
+        → Tried window m r (record { number = 0; progress = p }) (foundOne k l e)
+    step-passed p z h f q =
+        rw h (record { ordered = λ o. q .ordered; number = rw (z, single k (at r) l e) (sym f); state = λ y. q .state m })
 
-  -- where an entry breaks no rule, it can be counted
-  pub room : (k : Kind) (s : State) (l e : ℕ) → firstFailing (entryRules k window m s l e) ≡ 0 → Room k s l
-  room k s l e z =
-      by k (all-mean (entryRules k window m s l e) (entryMeanings k window m s l e) (entry-agree window m k s l e) .0 z .1 .1 .1 .1)
-    where
-      by : (k : Kind) → AllSay (ownMeanings k m s l (addressOf e)) → Room k s l
-      by Pointer h = h .0
-      by Directory h = h .0
-      by Page h = ⊎-elim (λ c. omega arith) (λ q. omega arith) (h .0)
+  -- where an entry breaks no rule, its address is above all that was found, and it can be counted
+  module _ (k : Kind) (p : Progress) (l e : ℕ) (z : firstFailing (entryRules k window m (stateOf m p) l e) ≡ 0) where
+    says : AllSay (entryMeanings k window m (stateOf m p) l e)
+    says = all-mean (entryRules k window m (stateOf m p) l e) (entryMeanings k window m (stateOf m p) l e) (entry-agree window m k (stateOf m p) l e) .0 z
+
+    pub above : Ordered p → Above p (addressOf e)
+    above o = record { ordered = o; above = says .1 .1 .0; below = address-below e }
+
+    pub room : Room k p l
+    room = by k (says .1 .1 .1 .1)
+      where
+        by : (k : Kind) → AllSay (ownMeanings k (stateOf m p) l (addressOf e)) → Room k p l
+        by Pointer h = h .0
+        by Directory h = h .0
+        by Page h = ⊎-elim (λ c. omega arith) (λ q. omega arith) (h .0)
 
   -- ENTRIES OF A LEVEL
 

@@ -12,11 +12,10 @@ use Rattle.pages.specs.declared.Memory.{Memory}
 use Rattle.pages.specs.declared.Kind.{Kind}
 use Rattle.pages.specs.declared.Kind.the-variants.{Pointer, Directory, Page}
 use Rattle.pages.specs.declared.WalkAnswer.the-variants.{Mapped, Refused}
-use Rattle.pages.specs.declared.levels.State.{State}
 use Rattle.pages.specs.Entry.{presentOf, addressOf}
-use Rattle.pages.specs.Memory.{pageOf, windowOf, forbidden, regions}
+use Rattle.pages.specs.Memory.{pageOf, windowOf, forbidden, regions, holding}
 use Rattle.pages.specs.Tables.{entryAt, levelSize, Found, found}
-use Rattle.pages.specs.Rules.{mostTables, startOf, afterEntry, walkRules, walkOf, numberOf}
+use Rattle.pages.specs.Rules.{State, mostTables, startOf, afterEntry, walkRules, walkOf, numberOf}
 
 -- RANGES
 
@@ -70,6 +69,10 @@ module _ (w : List ℕ) (m : Memory) (t : ℕ) where
   abbrev pub named : Kind → ℕ → Range
   named k l = pageOf (addressOf (entry k l))
 
+  -- a region holds every page
+  abbrev pub HoldsPages : Range → Type 0
+  HoldsPages r = (l : ℕ) → Present Page l → Within (named Page l) r
+
   -- THE RULES. 15 and 17 for the page of memory at an address
   pub record Placed (page : Range) : Type 0 where
     pub inside : Within page (windowOf w (m .window))
@@ -88,7 +91,8 @@ module _ (w : List ℕ) (m : Memory) (t : ℕ) where
     pub only : (l : ℕ) → Present Page l → (f ≤ l) × (l < f + n)
     -- where there is no page the first is 0
     pub noPage : n ≡ 0 → f ≡ 0
-    pub protected : (l : ℕ) → Present Page l → Some (Within (named Page l)) (regions m)
+    -- "all N pages lie in the same one of the three"
+    pub protected : Some HoldsPages (regions m)
 
   -- WHAT WAS FOUND. The n pages from linear page f on are found through the tables, and no others
   pub record Walked (f n : ℕ) : Type 0 where
@@ -102,7 +106,7 @@ module _ (w : List ℕ) (m : Memory) (t : ℕ) where
     pub directories : (k i : ℕ) → k < n → Present Pointer i → Apart (named Page (f + k)) (named Pointer i)
     pub pageTables : (k i : ℕ) → k < n → Present Directory i → Apart (named Page (f + k)) (named Directory i)
     pub clear : (k : ℕ) → k < n → Every (Apart (named Page (f + k))) (forbidden m)
-    pub protected : (k : ℕ) → k < n → Some (Within (named Page (f + k))) (regions m)
+    pub protected : Some (λ (r : Range). (k : ℕ) → k < n → Within (named Page (f + k)) r) (regions m)
 
 -- THE RULES IN ORDER
 
@@ -115,11 +119,11 @@ baseMeanings window m base =
     ∷ []
 
 -- "then a table for 18 and a page for 19, 20", where s was found before
-abbrev pub ownMeanings : Kind → Memory → State → ℕ → ℕ → List Meaning
-ownMeanings Pointer m s l a = meaning 18 (s .tables < mostTables) ∷ []
-ownMeanings Directory m s l a = meaning 18 (s .tables < mostTables) ∷ []
-ownMeanings Page m s l a =
-    meaning 19 ((s .count ≡ 0) ⊎ (l ≡ s .first + s .count)) ∷ meaning 20 (Some (Within (pageOf a)) (regions m)) ∷ []
+abbrev pub ownMeanings : Kind → State → ℕ → ℕ → List Meaning
+ownMeanings Pointer s l a = meaning 18 (s .tables < mostTables) ∷ []
+ownMeanings Directory s l a = meaning 18 (s .tables < mostTables) ∷ []
+ownMeanings Page s l a =
+    meaning 19 ((s .count ≡ 0) ⊎ (l ≡ s .first + s .count)) ∷ meaning 20 (Some (Within (pageOf a)) (s .common)) ∷ []
 
 -- "An entry is tried for 14, 15, 16, 17;"
 abbrev pub entryMeanings : Kind → Range → Memory → State → ℕ → ℕ → List Meaning
@@ -128,7 +132,7 @@ entryMeanings k window m s l e =
     ∷ meaning 15 (Within (pageOf (addressOf e)) window)
     ∷ meaning 16 (s .last < addressOf e)
     ∷ meaning 17 (Every (Apart (pageOf (addressOf e))) (forbidden m))
-    ∷ ownMeanings k m s l (addressOf e)
+    ∷ ownMeanings k s l (addressOf e)
 
 unfoldable pub meaningsFrom : Range → Memory → State → List Found → List Meaning
 meaningsFrom window m s [] = []
@@ -138,7 +142,11 @@ meaningsFrom window m s (e ∷ es) =
 -- those of the base, then those of each entry that is present, in breadth-first order
 abbrev pub walkMeanings : List ℕ → Memory → ℕ → List Meaning
 walkMeanings w m t =
-    baseMeanings (windowOf w (m .window)) m t ++ meaningsFrom (windowOf w (m .window)) m (startOf t) (found w (m .window) t)
+    baseMeanings (windowOf w (m .window)) m t ++ meaningsFrom (windowOf w (m .window)) m (startOf m t) (found w (m .window) t)
+
+-- the regions that are left with a page are those that hold all its bytes: what is so of one of the former is so of one of the latter, and conversely
+abbrev pub HoldingMeans : Type 1
+HoldingMeans = (rs : List Range) (a : ℕ) (P : Range → Type 0) → Some P (holding rs a) ↔ Some (λ (r : Range). Within (pageOf a) r × P r) rs
 
 -- the number of the answer is that of the first rule that fails
 abbrev pub NumberIsFirst : Type 0

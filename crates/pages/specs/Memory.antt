@@ -1,11 +1,12 @@
--- Pages of memory: inside the window, clear of what is forbidden, protected. "Forbidden" and "protected" are one definition each.
+-- Pages of memory: inside the window, clear of what is forbidden, held by a region that is protected against DMA. What is forbidden, and what is
+-- protected, stands here once.
 use Prim.Native.Nat.{ℕ}
 use mathlib.Core.Bool.{Bool}
 use mathlib.Core.List.{List, [], _∷_}
 use lib.ListN.{length}
 use Rattle.range.specs.declared.Range.{Range}
 use Rattle.range.specs.Range.{insideOf, clearOf, pageSize}
-use Rattle.rules.specs.Tests.{every, any}
+use Rattle.rules.specs.Tests.{every, any, filter}
 use Rattle.pages.specs.declared.Memory.{Memory}
 
 -- "Each stands for 4,096 bytes"
@@ -32,6 +33,10 @@ regions m = m .dpr ∷ m .low ∷ m .high ∷ []
 unfoldable pub allowed : Memory → ℕ → Bool
 allowed m a = every (clearOf (pageOf a)) (forbidden m)
 
--- rule 20: "wholly in"
-unfoldable pub protected : Memory → ℕ → Bool
-protected m a = any (insideOf (pageOf a)) (regions m)
+-- rule 20: one of the regions holds the page, "wholly in"
+unfoldable pub protected : List Range → ℕ → Bool
+protected rs a = any (insideOf (pageOf a)) rs
+
+-- those of the regions that hold the page: "The first page picks every region that holds it"
+unfoldable pub holding : List Range → ℕ → List Range
+holding rs a = filter (insideOf (pageOf a)) rs

@@ -9,26 +9,33 @@ use Rattle.rules.specs.Rules.{Rule, rule, firstFailing, answerFor}
 use Rattle.pages.specs.declared.Kind.{Kind}
 use Rattle.pages.specs.declared.Kind.the-variants.{Pointer, Directory, Page}
 use Rattle.pages.specs.declared.Memory.{Memory}
-use Rattle.pages.specs.declared.levels.State.{State}
 use Rattle.pages.specs.declared.WalkAnswer.{WalkAnswer}
 use Rattle.pages.specs.declared.WalkAnswer.the-variants.{Mapped, Refused}
 use Rattle.pages.specs.Entry.{addressOf, reservedClear}
-use Rattle.pages.specs.Memory.{pageOf, windowOf, allowed, protected}
+use Rattle.pages.specs.Memory.{pageOf, windowOf, regions, allowed, protected, holding}
 use Rattle.pages.specs.Tables.{Found, found}
 
 -- "a seventeenth table page, the base and directories counted"
 abbrev pub mostTables : ℕ
 mostTables = 16
 
--- what was found so far: the last address found, how many tables, the first linear page and how many pages. "the first one the base"
-abbrev pub startOf : ℕ → State
-startOf base = record { last = base; tables = 1; first = 0; count = 0 }
+-- what was found so far: the last address, how many tables, the first linear page and how many pages, and the regions that hold all these pages
+pub record State : Type 0 where
+  pub last : ℕ
+  pub tables : ℕ
+  pub first : ℕ
+  pub count : ℕ
+  pub common : List Range
+
+-- "the first one the base"
+abbrev pub startOf : Memory → ℕ → State
+startOf m base = record { last = base; tables = 1; first = 0; count = 0; common = regions m }
 
 abbrev pub afterTable : State → ℕ → State
-afterTable s a = record { last = a; tables = s .tables + 1; first = s .first; count = s .count }
+afterTable s a = record { last = a; tables = s .tables + 1; first = s .first; count = s .count; common = s .common }
 
 abbrev pub afterPage : State → ℕ → ℕ → State
-afterPage s l a = record { last = a; tables = s .tables; first = cond (eqb (s .count) 0) l (s .first); count = s .count + 1 }
+afterPage s l a = record { last = a; tables = s .tables; first = cond (eqb (s .count) 0) l (s .first); count = s .count + 1; common = holding (s .common) a }
 
 -- after an entry with a number of its level and an address
 abbrev pub after : Kind → State → ℕ → ℕ → State
@@ -52,14 +59,14 @@ baseRules window m base =
     ∷ []
 
 -- "Linear pages follow one another without a gap from the first."
-unfoldable pub follows : State → ℕ → Bool
-follows s l = eqb (s .count) 0 || eqb l (s .first + s .count)
+unfoldable pub follows : ℕ → ℕ → ℕ → Bool
+follows first count l = eqb count 0 || eqb l (first + count)
 
--- "then a table for 18 and a page for 19, 20"
-abbrev pub ownRules : Kind → Memory → State → ℕ → ℕ → List Rule
-ownRules Pointer m s l a = rule 18 (ltb (s .tables) mostTables) ∷ []
-ownRules Directory m s l a = rule 18 (ltb (s .tables) mostTables) ∷ []
-ownRules Page m s l a = rule 19 (follows s l) ∷ rule 20 (protected m a) ∷ []
+-- "then a table for 18 and a page for 19, 20": "a page that leaves no common region gives 20, at that page"
+abbrev pub ownRules : Kind → State → ℕ → ℕ → List Rule
+ownRules Pointer s l a = rule 18 (ltb (s .tables) mostTables) ∷ []
+ownRules Directory s l a = rule 18 (ltb (s .tables) mostTables) ∷ []
+ownRules Page s l a = rule 19 (follows (s .first) (s .count) l) ∷ rule 20 (protected (s .common) a) ∷ []
 
 -- "An entry is tried for 14, 15, 16, 17;" .. "Every address found must exceed the one before it in this breadth-first order"
 abbrev pub entryRules : Kind → Range → Memory → State → ℕ → ℕ → List Rule
@@ -68,7 +75,7 @@ entryRules k window m s l e =
     ∷ rule 15 (insideOf (pageOf (addressOf e)) window)
     ∷ rule 16 (ltb (s .last) (addressOf e))
     ∷ rule 17 (allowed m (addressOf e))
-    ∷ ownRules k m s l (addressOf e)
+    ∷ ownRules k s l (addressOf e)
 
 -- the rules of entries in turn
 unfoldable pub rulesFrom : Range → Memory → State → List Found → List Rule
@@ -79,11 +86,11 @@ rulesFrom window m s (e ∷ es) =
 -- all rules of the walk from the table base t
 unfoldable pub walkRules : List ℕ → Memory → ℕ → List Rule
 walkRules w m t =
-    baseRules (windowOf w (m .window)) m t ++ rulesFrom (windowOf w (m .window)) m (startOf t) (found w (m .window) t)
+    baseRules (windowOf w (m .window)) m t ++ rulesFrom (windowOf w (m .window)) m (startOf m t) (found w (m .window) t)
 
 -- what was found when all entries were tried
 unfoldable pub endState : List ℕ → Memory → ℕ → State
-endState w m t = afterAll (startOf t) (found w (m .window) t)
+endState w m t = afterAll (startOf m t) (found w (m .window) t)
 
 -- the answer for a number: 0 gives the first linear page and how many there are, every other is a refusal
 unfoldable pub answerOf : ℕ → State → WalkAnswer

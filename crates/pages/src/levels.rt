@@ -13,6 +13,7 @@ use crate::tables::POINTERS;
 use crate::tables::directory;
 use crate::tables::entry;
 use range::PAGE_SIZE;
+use range::Range;
 use rules::unless;
 ghost use mathlib.Core.Path.{_≡_};
 ghost use Prim.Native.Nat.{_+_, _*_, _≤_, _<_};
@@ -21,60 +22,88 @@ ghost use Rattle.pages.specs.declared.Kind.the-variants.{Directory, Page
 ghost use Rattle.pages.specs.Memory.{windowOf};
 ghost use Rattle.pages.specs.Tables.{entries, entryAt, levelSize, foundOne, foundFrom, foundIn};
 ghost use Rattle.pages.specs.Rules.{mostTables, afterTable, afterPage, after, follows, baseRules, ownRules, entryRules, walkOf};
-ghost use Rattle.pages.specs.Inner.{Room, Tried};
+ghost use Rattle.pages.specs.Inner.{stateOf, pagesTo, Ordered, Above, Leads, Room, Tried};
 
 const MOST_TABLES: u64 = 16;
 
 const DIRECTORIES: u64 = POINTERS * ENTRIES;
 
-// What was found so far: the last address found, how many tables, the first linear page, how many pages.
-pub struct State {
+// What is kept of what was found so far: the last address, how many tables, the first linear page, how many pages, and the range from the first page
+// to the last. Addresses rise and a region is one range, so a region holds every page where it holds that range.
+pub struct Progress {
     pub last: u64,
     pub tables: u64,
     pub first: u32,
     pub count: u32,
+    pub pages: Range,
 }
 
 // The number of the rule that failed, 0 so far, and what was found before it.
 pub struct Run {
     pub number: u32,
-    pub state: State,
+    pub progress: Progress,
 }
 
 // Rule 19: the first page, or the one after the last.
-fn page_follows(s: State, l: u64) -> bool
-    ensures { λ r. ⌜ r ≡ follows s l ⌝ }
+fn page_follows(p: Progress, l: u64) -> bool
+    ensures { λ r. ⌜ r ≡ follows (p .first) (p .count) l ⌝ }
 {
-    if s.count == 0 {
+    if p.count == 0 {
         return true;
     }
-    if l < s.first as u64 {
+    if l < p.first as u64 {
         return false;
     }
-    l - s.first as u64 == s.count as u64
+    l - p.first as u64 == p.count as u64
+}
+
+// The range from the first page to a page at a.
+fn pages_to(p: Progress, a: u64) -> Range
+    requires { ⌜ Above p a ⌝ }
+    ensures { λ r. ⌜ r ≡ pagesTo p a ⌝ }
+{
+    let base = if p.count == 0 { a } else { p.pages.base };
+    Range {
+        base,
+        size: a - base + PAGE_SIZE,
+    }
 }
 
 // The number of the first of a kind's own rules that fails: 18 for a table, 19 and 20 for a page.
-fn own_fault(kind: Kind, m: Memory, s: State, l: u64, a: u64) -> u32
-    ensures { λ r. ⌜ r ≡ firstFailing (ownRules kind m s l a) ⌝ }
+fn own_fault(kind: Kind, m: Memory, p: Progress, l: u64, a: u64) -> u32
+    requires { ⌜ Above p a ⌝ }
+    ensures { λ r. ⌜ r ≡ firstFailing (ownRules kind (stateOf m p) l a) ⌝ }
 {
     match kind {
-        Kind::Pointer => unless(s.tables < MOST_TABLES, 18, 0),
-        Kind::Directory => unless(s.tables < MOST_TABLES, 18, 0),
-        Kind::Page => unless(page_follows(s, l), 19, unless(is_protected(m, a), 20, 0)),
+        Kind::Pointer => unless(p.tables < MOST_TABLES, 18, 0),
+        Kind::Directory => unless(p.tables < MOST_TABLES, 18, 0),
+        Kind::Page => unless(
+            page_follows(p, l),
+            19,
+            unless(is_protected(m, pages_to(p, a)), 20, 0),
+        ),
     }
 }
 
-// The number of the first rule that a present entry breaks, 0 where it breaks none.
-fn entry_fault(kind: Kind, w: &[u8], m: Memory, s: State, l: u64, e: u64) -> u32
-    ensures { λ r. ⌜ r ≡ firstFailing (entryRules kind (windowOf (now (w .entry)) (m .window)) m s l e) ⌝ }
+// The number of the first rule that a present entry breaks, 0 where it breaks none. A page's range is formed only above the last address.
+fn entry_fault(kind: Kind, w: &[u8], m: Memory, p: Progress, l: u64, e: u64) -> u32
+    requires { ⌜ Ordered p ⌝ }
+    ensures { λ r. ⌜ r ≡ firstFailing (entryRules kind (windowOf (now (w .entry)) (m .window)) m (stateOf m p) l e) ⌝ }
 {
+    if !reserved_clear(kind, e) {
+        return 14;
+    }
     let a = address(e);
-    let own = own_fault(kind, m, s, l, a);
-    let forbidden = unless(is_allowed(m, a), 17, own);
-    let order = unless(s.last < a, 16, forbidden);
-    let place = unless(in_window(w, m.window, a), 15, order);
-    unless(reserved_clear(kind, e), 14, place)
+    if !in_window(w, m.window, a) {
+        return 15;
+    }
+    if !(p.last < a) {
+        return 16;
+    }
+    if !is_allowed(m, a) {
+        return 17;
+    }
+    own_fault(kind, m, p, l, a)
 }
 
 // The number of the first rule that the base breaks, 0 where it breaks none.
@@ -87,47 +116,51 @@ fn base_fault(w: &[u8], m: Memory, t: u64) -> u32
 }
 
 // What was found after one table more.
-fn with_table(s: State, a: u64) -> State
-    requires { ⌜ s .tables < mostTables ⌝ }
-    ensures { λ r. ⌜ r ≡ afterTable s a ⌝ }
+fn with_table(p: Progress, a: u64) -> Progress
+    requires { ⌜ Above p a × (p .tables < mostTables) ⌝ }
+    ensures { λ r. ⌜ Leads (λ s. afterTable s a) p r ⌝ }
 {
-    State {
+    let pages = p.pages;
+    Progress {
         last: a,
-        tables: s.tables + 1,
-        first: s.first,
-        count: s.count,
+        tables: p.tables + 1,
+        first: p.first,
+        count: p.count,
+        pages,
     }
 }
 
 // What was found after one page more: the first one gives the first linear page.
-fn with_page(s: State, l: u64, a: u64) -> State
-    requires { ⌜ (s .count ≤ l) × (l < levelSize Page) ⌝ }
-    ensures { λ r. ⌜ r ≡ afterPage s l a ⌝ }
+fn with_page(p: Progress, l: u64, a: u64) -> Progress
+    requires { ⌜ Above p a × ((p .count ≤ l) × (l < levelSize Page)) ⌝ }
+    ensures { λ r. ⌜ Leads (λ s. afterPage s l a) p r ⌝ }
 {
-    let first = if s.count == 0 { l as u32 } else { s.first };
-    State {
+    let first = if p.count == 0 { l as u32 } else { p.first };
+    let pages = pages_to(p, a);
+    Progress {
         last: a,
-        tables: s.tables,
+        tables: p.tables,
         first,
-        count: s.count + 1,
+        count: p.count + 1,
+        pages,
     }
 }
 
 // What was found after an entry that breaks no rule.
-fn after_entry(kind: Kind, s: State, l: u64, a: u64) -> State
-    requires { ⌜ Room kind s l × (l < levelSize Page) ⌝ }
-    ensures { λ r. ⌜ r ≡ after kind s l a ⌝ }
+fn after_entry(kind: Kind, p: Progress, l: u64, a: u64) -> Progress
+    requires { ⌜ Above p a × (Room kind p l × (l < levelSize Page)) ⌝ }
+    ensures { λ r. ⌜ Leads (λ s. after kind s l a) p r ⌝ }
 {
     match kind {
-        Kind::Pointer => with_table(s, a),
-        Kind::Directory => with_table(s, a),
-        Kind::Page => with_page(s, l, a),
+        Kind::Pointer => with_table(p, a),
+        Kind::Directory => with_table(p, a),
+        Kind::Page => with_page(p, l, a),
     }
 }
 
 // One entry of a level. Nothing more is tried after a rule has failed.
 fn step(kind: Kind, w: &[u8], m: Memory, r: Run, l: u64, e: u64) -> Run
-    requires { ⌜ l < levelSize Page ⌝ }
+    requires { ⌜ Ordered (r .progress) × (l < levelSize Page) ⌝ }
     ensures { λ o. ⌜ Tried (windowOf (now (w .entry)) (m .window)) m r o (foundOne kind l e) ⌝ }
 {
     if r.number != 0 {
@@ -136,21 +169,21 @@ fn step(kind: Kind, w: &[u8], m: Memory, r: Run, l: u64, e: u64) -> Run
     if !present(e) {
         return r;
     }
-    let state = r.state;
-    let number = entry_fault(kind, w, m, state, l, e);
+    let progress = r.progress;
+    let number = entry_fault(kind, w, m, progress, l, e);
     if number != 0 {
-        return Run { number, state };
+        return Run { number, progress };
     }
-    let next = after_entry(kind, state, l, address(e));
+    let next = after_entry(kind, progress, l, address(e));
     Run {
         number: 0,
-        state: next,
+        progress: next,
     }
 }
 
 // n entries of a level, from number l on.
 fn span(kind: Kind, w: &[u8], m: Memory, t: u64, r: Run, l: u64, n: u64) -> Run
-    requires { ⌜ l + n ≤ levelSize Page ⌝ }
+    requires { ⌜ Ordered (r .progress) × (l + n ≤ levelSize Page) ⌝ }
     ensures { λ o. ⌜ Tried (windowOf (now (w .entry)) (m .window)) m r o (foundFrom kind (entryAt kind (now (w .entry)) (m .window) t) l n) ⌝ }
 {
     let mut run = r;
@@ -164,7 +197,7 @@ fn span(kind: Kind, w: &[u8], m: Memory, t: u64, r: Run, l: u64, n: u64) -> Run
 
 // The pages of the directory entry d. There are none where the entry is not present.
 fn table(w: &[u8], m: Memory, t: u64, r: Run, d: u64) -> Run
-    requires { ⌜ d < levelSize Directory ⌝ }
+    requires { ⌜ Ordered (r .progress) × (d < levelSize Directory) ⌝ }
     ensures { λ o. ⌜ Tried (windowOf (now (w .entry)) (m .window)) m r o (foundFrom Page (entryAt Page (now (w .entry)) (m .window) t) (entries * d) entries) ⌝ }
 {
     if r.number != 0 {
@@ -178,6 +211,7 @@ fn table(w: &[u8], m: Memory, t: u64, r: Run, d: u64) -> Run
 
 // All pages.
 fn pages(w: &[u8], m: Memory, t: u64, r: Run) -> Run
+    requires { ⌜ Ordered (r .progress) ⌝ }
     ensures { λ o. ⌜ Tried (windowOf (now (w .entry)) (m .window)) m r o (foundIn Page (now (w .entry)) (m .window) t) ⌝ }
 {
     let mut run = r;
@@ -191,6 +225,7 @@ fn pages(w: &[u8], m: Memory, t: u64, r: Run) -> Run
 
 // All entries of a level.
 fn level(kind: Kind, w: &[u8], m: Memory, t: u64, r: Run) -> Run
+    requires { ⌜ Ordered (r .progress) ⌝ }
     ensures { λ o. ⌜ Tried (windowOf (now (w .entry)) (m .window)) m r o (foundIn kind (now (w .entry)) (m .window) t) ⌝ }
 {
     match kind {
@@ -205,20 +240,22 @@ pub fn walk(w: &[u8], m: Memory, t: u64) -> WalkAnswer
     ensures { λ r. ⌜ r ≡ walkOf (now (w .entry)) m t ⌝ }
 {
     let number = base_fault(w, m, t);
-    let state = State {
+    let none = Range { base: t, size: 0 };
+    let progress = Progress {
         last: t,
         tables: 1,
         first: 0,
         count: 0,
+        pages: none,
     };
-    let start = Run { number, state };
+    let start = Run { number, progress };
     let pointers = level(Kind::Pointer, w, m, t, start);
     let directories = level(Kind::Directory, w, m, t, pointers);
     let end = level(Kind::Page, w, m, t, directories);
     if end.number != 0 {
         return WalkAnswer::Refused(end.number);
     }
-    let found = end.state;
+    let found = end.progress;
     WalkAnswer::Mapped {
         first: found.first,
         count: found.count,

@@ -1,10 +1,11 @@
-// What a page of memory is tried for: inside the window, clear of the forbidden ranges, wholly in a protected region.
+// What a page of memory is tried for: inside the window, clear of the forbidden ranges; and whether a region holds a range of pages.
 use crate::Memory;
 use range::PAGE_SIZE;
 use range::Range;
 ghost use mathlib.Core.Path.{_≡_};
 ghost use Rattle.range.specs.Range.{insideOf};
-ghost use Rattle.pages.specs.Memory.{pageOf, windowOf, allowed, protected};
+ghost use Rattle.rules.specs.Tests.{any};
+ghost use Rattle.pages.specs.Memory.{pageOf, windowOf, regions, allowed};
 
 // The forbidden range below 1 MiB, 0xA0000 to 0xFFFFF.
 const LOW_BASE: u64 = 0xA0000;
@@ -41,13 +42,9 @@ pub(crate) fn is_allowed(m: Memory, a: u64) -> bool
     range::clear(page, low) && (range::clear(page, m.heap) && range::clear(page, m.sinit))
 }
 
-// Rule 20: wholly in DPR, in the low PMR or in the high PMR.
-pub(crate) fn is_protected(m: Memory, a: u64) -> bool
-    ensures { λ r. ⌜ r ≡ protected m a ⌝ }
+// Rule 20, of the range from the first page to this one: wholly in DPR, in the low PMR or in the high PMR.
+pub(crate) fn is_protected(m: Memory, pages: Range) -> bool
+    ensures { λ r. ⌜ r ≡ any (insideOf pages) (regions m) ⌝ }
 {
-    let page = Range {
-        base: a,
-        size: PAGE_SIZE,
-    };
-    range::inside(page, m.dpr) || (range::inside(page, m.low) || range::inside(page, m.high))
+    range::inside(pages, m.dpr) || (range::inside(pages, m.low) || range::inside(pages, m.high))
 }

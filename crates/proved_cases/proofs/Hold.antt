@@ -18,7 +18,7 @@ use Rattle.policy_grammar.specs.Layout as L
 use Rattle.policy_grammar.specs.Decode as D
 use Rattle.decision.specs.Lists.{names}
 use Rattle.pages.specs.Entry.{presentOf, addressOf, reservedClear}
-use Rattle.pages.specs.Memory.{allowed, protected}
+use Rattle.pages.specs.Memory.{allowed, protected, holding}
 use Rattle.pages.specs.Tables.{foundFrom}
 use Rattle.pages.specs.Rules.{follows, rulesFrom}
 use Rattle.proved_cases.specs.Table.{Case, AllCases, cases, NamesNothing, BothSides}
@@ -35,7 +35,7 @@ tested [] e = tt
 tested (c ∷ cs) e = let p = and-eq-true-iff _ _ .0 e in (eqb-true _ _ (p .0), tested cs (p .1))
 
 table-holds : AllCases cases
-unfolding test flatMap bytes number fieldAt valueOf endsBy biosDataSize osMleDataSize osSinitDataSize partsFit osSinitPart fieldsOf versionKnown sizeFits endsWithin lowPlaced highPlaced pmrsPlaced numberOf answerFor heapOf same markedAt insideOf E rowOf all someBelow inside place header gdt entry selector table list revisionMatches match listed supported moduleOf presentOf addressOf reservedClear allowed protected clearOf foundFrom follows rulesFrom digestLength markCharacters F._>>=_ F.number F.string F.rest F.inside F.times F.many P.after P.continue P.exactly P.read L.digests L.launch L.other L.body L.element L.signed L.signing L.list L.file L.whole D.reading D.accepted
+unfolding test flatMap bytes number fieldAt valueOf endsBy biosDataSize osMleDataSize osSinitDataSize partsFit osSinitPart fieldsOf versionKnown sizeFits endsWithin lowPlaced highPlaced pmrsPlaced numberOf answerFor heapOf same markedAt insideOf E rowOf all someBelow inside place header gdt entry selector table list revisionMatches match listed supported moduleOf presentOf addressOf reservedClear allowed protected holding clearOf foundFrom follows rulesFrom digestLength markCharacters F._>>=_ F.number F.string F.rest F.inside F.times F.many P.after P.continue P.exactly P.read L.digests L.launch L.other L.body L.element L.signed L.signing L.list L.file L.whole D.reading D.accepted
 table-holds =
     tested cases
     (rw (

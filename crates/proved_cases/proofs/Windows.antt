@@ -199,6 +199,6 @@ module _ (pages : List ℕ) (small : length pages ≤ 512) (fit : Entries pages)
   pub window-number : walkNumber pages
       ≡ firstFailing
       (baseRules (range windowBase 20480) memory windowBase
-      ++ rulesFrom (range windowBase 20480) memory (startOf windowBase) (foundOf Pointer 0 (entryOf 0x102000) ∷ foundOf Directory 0 (entryOf 0x103000) ∷ listed))
+      ++ rulesFrom (range windowBase 20480) memory (startOf memory windowBase) (foundOf Pointer 0 (entryOf 0x102000) ∷ foundOf Directory 0 (entryOf 0x103000) ∷ listed))
   unfolding walkNumber walkRules
   window-number = number-is-first w memory windowBase ∙ rw (length-window, found-all)

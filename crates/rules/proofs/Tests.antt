@@ -65,6 +65,10 @@ module _ {A : Type 0} (test : A → Bool) (P : A → Type 0) (says : (x : A) →
   any-exactly [] = (λ e. absurd (true≢false (sym e)), λ h. absurd h)
   any-exactly (x ∷ xs) = or-exactly (says x) (any-exactly xs)
 
+pub some-map : {A : Type 0} (P Q : A → Type 0) → ((x : A) → P x → Q x) → (xs : List A) → Some P xs → Some Q xs
+some-map P Q f [] h = h
+some-map P Q f (x ∷ xs) h = ⊎-elim (λ p. inl (f x p)) (λ q. inr (some-map P Q f xs q)) h
+
 -- a test that is asked only where another holds
 pub where-holds : (a b : Bool) {P Q : Type 0} → (a ≡ true) ↔ P → (b ≡ true) ↔ Q → ((not a || b) ≡ true) ↔ (P → Q)
 where-holds true b p q = (λ e h. q .0 e, λ h. q .1 (h (p .0 refl)))

@@ -24,7 +24,7 @@ pub struct Finding {
     pub place: String,
     pub expected: String,
     pub found: String,
-    /// More of the same, a line each: the entries of a list, or the reason of each policy list.
+    /// More of the same, a line each: the entries of a list, or the reason of each policy list or region.
     pub notes: Vec<String>,
 }
 

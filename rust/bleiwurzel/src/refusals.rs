@@ -217,7 +217,10 @@ pub static TEXTS: [Text; 30] = [
             "Compare the memory of the host with the one the image was made for: after a change of DIMMs the PMRs may be stale.",
             "Look whether the found size is in truth an end address.",
         ],
-        builder: &["Split the protected memory at 4 GiB; write size 0 for the half that is not there."],
+        builder: &[
+            "Split the protected memory at 4 GiB; write size 0 for the half that is not there. One of the two, or the DPR, must hold the whole image \
+                (20).",
+        ],
     },
     Text {
         number: 6,
@@ -431,19 +434,29 @@ pub static TEXTS: [Text; 30] = [
     Text {
         number: 20,
         name: "not protected",
-        meaning: "A page of the image does not lie wholly in DPR, in the low PMR or in the high PMR.",
-        rule: "All 4,096 bytes of the page lie in one of: DPR (base and size of the platform), PMR low (offsets 32 and 40 in OsSinitData), PMR \
-            high (48 and 56). A page that is half in one and half in another is in none.",
+        meaning: "Neither DPR nor the low PMR nor the high PMR holds all pages of the image.",
+        rule: "All 4,096 bytes of every page lie in the same one of: DPR (base and size of the platform), PMR low (offsets 32 and 40 in \
+            OsSinitData), PMR high (48 and 56). The first page picks every region that holds it, and each later page keeps those of them that \
+            hold it too; the page that keeps none is refused. Pages across two regions that abut are refused unless one region holds them \
+            all. Every page that the tables map counts, also one past MLE Size. The tables need no region.",
         causes: &[
-            "The loader left the PMR fields 0, and the image is not in the DPR.",
+            "The loader left the PMR fields 0, and the image is not wholly in the DPR.",
+            "The image lies partly in one region and partly in another, for instance in the DPR and in the low PMR.",
+            "The image lies across 4 GiB: the low PMR ends there at the latest, and the high one begins there at the earliest.",
+            "The image has grown past the end of the region that was made for it.",
             "The PMRs were made for a host with another amount of memory.",
             "DPR base or size were given wrong: the base is the top minus the size.",
         ],
         technician: &[
             "Compare DPR base and size with the host's DPR register; the size field there is in MiB.",
-            "Compare the page that was found with the three regions that the tool shows.",
+            "Compare the page that was found with the three regions that the tool shows. It is not enough that a region holds this page: one and \
+                the same must hold all pages.",
+            "If the regions are right for this host, hand page and regions to the image's builder.",
         ],
-        builder: &["Have the loader ask for PMRs that cover the whole image, or place the image inside the DPR."],
+        builder: &[
+            "Have the loader ask for one PMR that covers the whole image, or place the whole image inside the DPR.",
+            "Keep the image wholly below 4 GiB, as Intel's MLE guide asks.",
+        ],
     },
     Text {
         number: 21,

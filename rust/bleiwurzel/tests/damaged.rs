@@ -189,6 +189,15 @@ fn with_stm(shape: &Shape) -> Image {
     with_lists(&image, &[other, list(&[by_others, stm(&[[3; 32], stm_digest]), launch(2, &[digest])])])
 }
 
+/// The low PMR alone holds all three pages; DPR holds the first two.
+fn in_two_regions() -> Image {
+    let mut image = image(&Shape { pages: 3, ..Shape::default() });
+    (image.platform.dpr_base, image.platform.dpr_size) = (image.listed[0], 0x2000);
+    put(&mut image.heap, LOW, image.listed[0], 8);
+    put(&mut image.heap, LOW + 8, 0x3000, 8);
+    image
+}
+
 #[test]
 fn images() {
     let small = image(&Shape::default()).window.len();
@@ -206,7 +215,8 @@ fn images() {
     damage_image("4096 pages", of(Shape { pages: 4096, ..plain.clone() }), 60, 9, &mut counts);
     damage_image("4096 pages, LIST", listed(&Shape { pages: 4096, first: 100, ..plain.clone() }), 40, 10, &mut counts);
     damage_image("two pages, LIST with STM elements", with_stm(&plain), 6000, 12, &mut counts);
-    assert_eq!(counts.values().sum::<usize>(), 26_100);
+    damage_image("three pages in two regions", in_two_regions(), 3000, 14, &mut counts);
+    assert_eq!(counts.values().sum::<usize>(), 29_100);
     let met: Vec<u32> = counts.keys().copied().collect();
     let expected: Vec<u32> = (0..=29).filter(|number| *number != 13).collect();
     assert_eq!(met, expected, "every number but 13 is met: {counts:?}");

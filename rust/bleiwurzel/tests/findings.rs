@@ -39,6 +39,77 @@ fn the_hole_is_printed_once() {
     assert_eq!(expected.matches("0xa0000").count(), 1, "{expected}");
 }
 
+const NO_HIGH: &str = "PMR high (of size 0) does not hold it";
+
+/// Holds what is said of 20, for three pages from 0x103000 on with this DPR and low PMR (base and size), to: which page, what was expected of it,
+/// and the notes.
+fn outside(dpr: (u64, u64), low: (u64, u64), page: u64, expected: &str, notes: &[&str]) {
+    let mut image = image(&Shape { pages: 3, ..Shape::default() });
+    (image.platform.dpr_base, image.platform.dpr_size) = dpr;
+    put(&mut image.heap, LOW, low.0, 8);
+    put(&mut image.heap, LOW + 8, low.1, 8);
+    let finding = finding::first(&image.parts(), &image.platform, MOST_PAGES).expect("a refusal");
+    let (entry, linear) = (0x2000 + 8 * page, 0x1000 * page);
+    let place = format!(
+        "entry {page} of the page table at 0x102000 (physical {:#x}, window offset {entry:#x}), which maps linear {linear:#x}",
+        0x100000 + entry
+    );
+    let found = format!("page {:#x} to {:#x}", 0x103000 + linear, 0x103fff + linear);
+    let notes = notes.iter().map(|note| note.to_string()).collect();
+    assert_eq!(finding, Finding { number: 20, place, expected: expected.to_string(), found, notes });
+}
+
+/// All three regions are named.
+#[test]
+fn a_first_page_in_no_region() {
+    let expected = "wholly in one of DPR (0x104000 to 0x105fff), PMR low (0x103001 to 0x105fff), PMR high (of size 0)";
+    outside((0x104000, 0x2000), (0x103001, 0x2fff), 0, expected, &[]);
+}
+
+/// The region that holds every page before it is named, and why the others will not do.
+#[test]
+fn a_later_page_outside_one_region() {
+    let expected = "wholly in DPR (0x100000 to 0x103fff), which holds every page before it";
+    let other = "PMR low (0x103001 to 0x105fff) holds it, but not the first page, 0x103000 to 0x103fff";
+    outside((0x100000, 0x4000), (0x103001, 0x2fff), 1, expected, &[other, NO_HIGH]);
+    let expected = "wholly in PMR low (0x103000 to 0x105ffe), which holds every page before it";
+    let other = "DPR (0x104000 to 0x105fff) holds it, but not the first page, 0x103000 to 0x103fff";
+    outside((0x104000, 0x2000), (0x103000, 0x2fff), 2, expected, &[other, NO_HIGH]);
+    outside((0x103000, 0x1000), (0x103000, 0x2fff), 2, expected, &["DPR (0x103000 to 0x103fff) does not hold it", NO_HIGH]);
+}
+
+/// Two regions are two, also where their ranges are equal.
+#[test]
+fn a_later_page_outside_two_regions() {
+    let expected =
+        "wholly in one of DPR (0x103000 to 0x104fff), PMR low (0x103000 to 0x105ffe), each of which holds every page before it";
+    outside((0x103000, 0x2000), (0x103000, 0x2fff), 2, expected, &[NO_HIGH]);
+    let expected =
+        "wholly in one of DPR (0x103000 to 0x104fff), PMR low (0x103000 to 0x104fff), each of which holds every page before it";
+    outside((0x103000, 0x2000), (0x103000, 0x2000), 2, expected, &[NO_HIGH]);
+}
+
+/// What the tool prints of that, as text and as JSON.
+#[test]
+fn the_tool_shows_the_regions() {
+    let name = stored("20-three-pages-leaves-none.cap");
+    let shown = "
+  expected  wholly in DPR (0x101000 to 0x105fff), which holds every page before
+            it
+  found     page 0x106000 to 0x106fff
+            PMR low (0x105000 to 0x106fff) holds it, but not the first page,
+            0x104000 to 0x104fff
+            PMR high (of size 0) does not hold it
+";
+    let ran = run(&["check", "--capture", &name]);
+    assert!(ran.status == REFUSED && ran.out.contains(shown), "{}", ran.out);
+    let ran = run(&["check", "--capture", &name, "--json"]);
+    let shown = "\"expected\": \"wholly in DPR (0x101000 to 0x105fff), which holds every page before it\", \"found\": \"page 0x106000 to \
+                 0x106fff\", \"notes\": [\"PMR low (0x105000 to 0x106fff) holds it, but not the first page, 0x104000 to 0x104fff\", \"PMR high (of \
+                 size 0) does not hold it\"]}";
+    assert!(ran.status == REFUSED && ran.out.contains(shown), "{}", ran.out);
+}
+
 /// A capture has its parts whole, so their lengths are exact; of a file that was read up to its limit there may be more.
 #[test]
 fn lengths_are_exact_where_they_are_known() {

@@ -1,16 +1,37 @@
 //! Rules 14 to 20: the walk through the page tables, level by level.
 
 use super::heap::{OsSinitData, Range};
-use super::{field, need, on_a_page, Step};
+use super::{field, need, on_a_page, Finding, Step};
 use crate::{Parts, Platform, MOST_TABLES, PAGE_SIZE};
+use std::fmt;
 
 const ADDRESS: u64 = 0x000f_ffff_ffff_f000;
+
+/// A region that is protected against DMA. Two of the same range are two regions, so they are told apart by their names.
+#[derive(Clone, Copy)]
+struct Region {
+    name: &'static str,
+    range: Range,
+}
+
+impl Region {
+    /// Whether all bytes of a page lie in it.
+    fn holds(&self, page: &Range) -> bool {
+        page.base >= self.range.base && page.end() <= self.range.end()
+    }
+}
+
+impl fmt::Display for Region {
+    fn fmt(&self, f: &mut fmt::Formatter) -> fmt::Result {
+        write!(f, "{} ({})", self.name, shown(&self.range))
+    }
+}
 
 /// Ranges of memory that the walk asks about.
 pub struct Memory {
     window: Range,
     forbidden: [(&'static str, Range); 3],
-    regions: [(&'static str, Range); 3],
+    regions: [Region; 3],
     /// Where the table base was read.
     base_place: String,
 }
@@ -26,9 +47,9 @@ impl Memory {
                 ("the SINIT module", range(platform.sinit_base, parts.sinit.len())),
             ],
             regions: [
-                ("DPR", Range { base: platform.dpr_base, size: platform.dpr_size }),
-                ("PMR low", asked.low),
-                ("PMR high", asked.high),
+                Region { name: "DPR", range: Range { base: platform.dpr_base, size: platform.dpr_size } },
+                Region { name: "PMR low", range: asked.low },
+                Region { name: "PMR high", range: asked.high },
             ],
             base_place: asked.place("page table base", 8),
         }
@@ -87,12 +108,14 @@ struct Walk<'a> {
     memory: &'a Memory,
     last: u64,
     tables: usize,
+    /// The regions that hold every page so far.
+    common: Vec<Region>,
 }
 
 pub fn walk(window: &[u8], memory: &Memory, base: u64) -> Step<Mapped> {
     let place = memory.base_place.as_str();
     need(base % PAGE_SIZE == 0, 14, place, on_a_page(), format!("{base:#x}"))?;
-    let mut walk = Walk { window, memory, last: base, tables: 1 };
+    let mut walk = Walk { window, memory, last: base, tables: 1, common: memory.regions.to_vec() };
     walk.inside(base, || place.to_string())?;
     walk.clear(base, || place.to_string())?;
     let directories = walk.level(Level::Pointer, &[Table { address: base, first: 0 }])?;
@@ -106,37 +129,35 @@ impl Walk<'_> {
     /// What the present entries of these tables name, in order. `first` of a page is its linear number.
     fn level(&mut self, level: Level, tables: &[Table]) -> Step<Vec<Table>> {
         let mut named: Vec<Table> = Vec::new();
-        for table in tables {
-            for index in 0..level.entries() {
-                let value = field(self.window, table.address - self.memory.window.base + 8 * index, 8);
-                if value & 1 == 0 {
-                    continue;
-                }
-                let address = value & ADDRESS;
-                let linear = table.first + index;
-                let place = || self.place(level, table, index, linear);
-                bits(level, value, place)?;
-                self.inside(address, place)?;
-                self.above(address, place)?;
-                self.clear(address, place)?;
-                if level == Level::Page {
-                    follows(named.last(), linear, place)?;
-                    self.protected(address, place)?;
-                } else {
-                    let found = format!("{address:#x}, table page {}", self.tables + 1);
-                    need(
-                        self.tables < MOST_TABLES,
-                        18,
-                        place(),
-                        format!("at most {MOST_TABLES} table pages, the base counted"),
-                        found,
-                    )?;
-                    self.tables += 1;
-                }
-                self.last = address;
-                let first = if level == Level::Page { linear } else { linear * 512 };
-                named.push(Table { address, first });
+        for (table, index) in tables.iter().flat_map(|table| (0..level.entries()).map(move |index| (table, index))) {
+            let value = field(self.window, table.address - self.memory.window.base + 8 * index, 8);
+            if value & 1 == 0 {
+                continue;
             }
+            let address = value & ADDRESS;
+            let linear = table.first + index;
+            let place = || self.place(level, table, index, linear);
+            bits(level, value, place)?;
+            self.inside(address, place)?;
+            self.above(address, place)?;
+            self.clear(address, place)?;
+            if level == Level::Page {
+                follows(named.last(), linear, place)?;
+                self.common = self.protected(address, named.first(), place)?;
+            } else {
+                let found = format!("{address:#x}, table page {}", self.tables + 1);
+                need(
+                    self.tables < MOST_TABLES,
+                    18,
+                    place(),
+                    format!("at most {MOST_TABLES} table pages, the base counted"),
+                    found,
+                )?;
+                self.tables += 1;
+            }
+            self.last = address;
+            let first = if level == Level::Page { linear } else { linear * 512 };
+            named.push(Table { address, first });
         }
         Ok(named)
     }
@@ -186,15 +207,42 @@ impl Walk<'_> {
         Ok(())
     }
 
-    fn protected(&self, address: u64, place: impl Fn() -> String) -> Step<()> {
+    /// The regions that hold this page and every one before it. `first` is the first of all pages, where that is another.
+    fn protected(&self, address: u64, first: Option<&Table>, place: impl Fn() -> String) -> Step<Vec<Region>> {
         let page = page_at(address);
-        let holds = |range: &Range| page.base >= range.base && page.end() <= range.end();
-        if self.memory.regions.iter().any(|(_, range)| holds(range)) {
-            return Ok(());
+        let common: Vec<Region> = self.common.iter().copied().filter(|region| region.holds(&page)).collect();
+        if !common.is_empty() {
+            return Ok(common);
         }
-        let regions: Vec<String> = self.memory.regions.iter().map(|(name, range)| format!("{name} ({})", shown(range))).collect();
-        let expected = format!("wholly in one of {}", regions.join(", "));
-        need(false, 20, place(), expected, format!("page {}", shown(&page)))
+        Err(Finding {
+            number: 20,
+            place: place(),
+            expected: self.common_regions(first.is_some()),
+            found: format!("page {}", shown(&page)),
+            notes: first.map_or(Vec::new(), |first| self.other_regions(&page, &page_at(first.address))),
+        })
+    }
+
+    /// The regions of which one must hold a page, and for a later page why it is these.
+    fn common_regions(&self, later: bool) -> String {
+        let regions: Vec<String> = self.common.iter().map(Region::to_string).collect();
+        let (one_of, which) = if regions.len() == 1 { ("", "which") } else { ("one of ", "each of which") };
+        let why = if later { format!(", {which} holds every page before it") } else { String::new() };
+        format!("wholly in {one_of}{}{why}", regions.join(", "))
+    }
+
+    /// Why none of the other regions will do for a later page. A region is one range and the pages ascend, so one with the first page and this
+    /// one has those between too: where another region holds this page, it is the first that it does not hold.
+    fn other_regions(&self, page: &Range, first: &Range) -> Vec<String> {
+        let other = |region: &&Region| self.common.iter().all(|common| common.name != region.name);
+        let why = |region: &Region| {
+            if region.holds(page) {
+                format!("{region} holds it, but not the first page, {}", shown(first))
+            } else {
+                format!("{region} does not hold it")
+            }
+        };
+        self.memory.regions.iter().filter(other).map(why).collect()
     }
 }
 

@@ -1,5 +1,5 @@
-//! Rules 14 to 20: the table base, entry bits, the window, the order of addresses, forbidden ranges, the number of tables, linear gaps
-//! and protection.
+//! Rules 14 to 19: the table base, entry bits, the window, the order of addresses, forbidden ranges, the number of tables and linear gaps.
+//! `protection` has rule 20.
 //!
 //! Heap and module have at least 124 and 704 bytes here, and a module begins on a page, since lower rules ask for that: an empty heap
 //! inside a table, and a heap or module of one byte, cannot be shown by the whole check.
@@ -346,85 +346,6 @@ fn linear_pages() {
     );
 }
 
-fn region(i: &mut Image, at: usize, base: u64, size: u64) {
-    put(&mut i.heap, at, base, 8);
-    put(&mut i.heap, at + 8, size, 8);
-}
-
-/// DPR and one PMR, as base and size.
-fn regions(i: &mut Image, dpr: (u64, u64), at: usize, pmr: (u64, u64)) {
-    (i.platform.dpr_base, i.platform.dpr_size) = dpr;
-    region(i, at, pmr.0, pmr.1);
-}
-
-/// The pages are 7 and 8 of the window, so that one region can end with both.
-fn neighbours(base: u64) -> Image {
-    let mut image = spread(base);
-    image.entry(TABLE, 1, 8);
-    image.maps(0, &[7, 8]);
-    image
-}
-
-#[test]
-fn protected_by_dpr_and_low_pmr() {
-    const AT: u64 = BASE + 7 * 0x1000;
-    const NEXT: u64 = AT + 0x1000;
-    const NONE: (u64, u64) = (0, 0);
-    hold(
-        &neighbours(BASE),
-        &[
-            ("both in DPR", |i| regions(i, (AT, 0x2000), LOW, NONE), 0),
-            ("both in the low PMR", |i| regions(i, NONE, LOW, (AT, 0x2000)), 0),
-            ("in no region", |i| regions(i, NONE, LOW, NONE), 20),
-            ("one in DPR, the other in the low PMR", |i| regions(i, (AT, 0x1000), LOW, (NEXT, 0x1000)), 0),
-            ("the first in DPR, the second in none", |i| regions(i, (AT, 0x1000), LOW, NONE), 20),
-            ("the second in DPR, the first in none", |i| regions(i, (NEXT, 0x1000), LOW, NONE), 20),
-            ("DPR without the last byte", |i| regions(i, (AT, 0x1fff), LOW, NONE), 20),
-            ("DPR without the first byte", |i| regions(i, (AT + 1, 0x2000), LOW, NONE), 20),
-            ("the low PMR without the last byte", |i| regions(i, NONE, LOW, (AT, 0x1fff)), 20),
-            ("the low PMR without the first byte", |i| regions(i, NONE, LOW, (AT + 1, 0x2000)), 20),
-            ("a page across two regions that abut", |i| regions(i, (AT, 0x1fff), LOW, (AT + 0x1fff, 0x1000)), 20),
-        ],
-    );
-}
-
-/// A high PMR begins at or above 4 GiB, so the window lies there.
-#[test]
-fn protected_by_high_pmr() {
-    const HERE: u64 = (1 << 32) + BASE;
-    const AT: u64 = HERE + 7 * 0x1000;
-    const NEXT: u64 = AT + 0x1000;
-    const NONE: (u64, u64) = (0, 0);
-    hold(
-        &neighbours(HERE),
-        &[
-            ("both in the high PMR", |i| regions(i, NONE, HIGH, (AT, 0x2000)), 0),
-            ("one in DPR, the other in the high PMR", |i| regions(i, (AT, 0x1000), HIGH, (NEXT, 0x1000)), 0),
-            ("the high PMR without the last byte", |i| regions(i, NONE, HIGH, (AT, 0x1fff)), 20),
-            ("the high PMR without the first byte", |i| regions(i, NONE, HIGH, (AT + 1, 0x2000)), 20),
-            ("the second in the high PMR, the first in none", |i| regions(i, NONE, HIGH, (NEXT, 0x1000)), 20),
-        ],
-    );
-}
-
-/// A page below 4 GiB in the low PMR, one above in the high PMR.
-#[test]
-fn protected_by_both_pmrs() {
-    const HERE: u64 = (1 << 32) - 8 * 0x1000;
-    fn both(i: &mut Image, low: u64, high: u64) {
-        regions(i, (0, 0), LOW, (HERE, low));
-        region(i, HIGH, 1 << 32, high);
-    }
-    hold(
-        &neighbours(HERE),
-        &[
-            ("up to 4 GiB and from there on", |i| both(i, 8 * 0x1000, 0x1000), 0),
-            ("up to 1 byte below 4 GiB", |i| both(i, 8 * 0x1000 - 1, 0x1000), 20),
-            ("above 4 GiB 1 byte short", |i| both(i, 8 * 0x1000, 0xfff), 20),
-        ],
-    );
-}
-
 /// A level is finished before the next one begins, and an entry before the next one.
 #[test]
 fn breadth_first() {
@@ -438,7 +359,7 @@ fn breadth_first() {
         }
     }
     fn first_page_only(i: &mut Image) {
-        regions(i, (i.address(ONE), 0x1000), LOW, (0, 0));
+        (i.platform.dpr_base, i.platform.dpr_size) = (i.address(ONE), 0x1000);
     }
     hold(
         &good(),

@@ -1,4 +1,11 @@
--- `own_fault` meets its contract: each kind has its own rules.
+-- `own_fault` meets its contract: each kind has its own rules. For a page a region is left exactly where one holds all from the first page to this one.
+use mathlib.Core.Path.{_≡_, ap, _∙_}
+use Rattle.range.specs.declared.Range.{Range}
+use Rattle.range.specs.Range.{insideOf}
+use Rattle.rules.specs.Tests.{any}
+use Rattle.pages.specs.Memory.{regions, protected}
+use Rattle.pages.specs.Inner.{commonOf}
+use Rattle.pages.proofs.Kept.{protected-is}
 use borrow.Author.Needs.{needs}
 use Rattle.pages.proofs.levels.own_fault.Statement.{statement}
 use Rattle.pages.proofs.levels.own_fault.Tie as tie
@@ -21,6 +28,9 @@ enum-told-3 c = search needs
 page-follows-requires : tie.Need-page-follows-requires
 page-follows-requires c κs = search needs
 
+pages-to-requires : tie.Need-pages-to-requires
+pages-to-requires c κs = search needs
+
 is-protected-requires : tie.Need-is-protected-requires
 is-protected-requires c κs = search needs
 
@@ -38,13 +48,14 @@ returns-2 c = simp (c .before .before .enum-told2 .given .1, c .unless2 .ensures
 
 returns-3 : tie.Need-returns-3
 returns-3 c =
-    simp (
-      c .before .before .before .before .enum-told3 .given .1,
-      c .unless4 .ensures,
-      c .before .unless3 .ensures,
-      c .before .before .is-protected .ensures,
-      c .before .before .before .page-follows .ensures,
-    )
+    let d = c .before .before in
+    let start = d .before .before .before .before .before in
+    let m = start .args .m in
+    let is : d .is-protected .result ≡ protected (commonOf m (start .args .p)) (start .args .a) =
+    d .is-protected .ensures
+    ∙ ap (λ (pages : Range). any (insideOf pages) (regions m)) (d .before .pages-to .ensures)
+    ∙ protected-is (start .args .p) (start .args .a) (start .pre) m in
+    simp (d .before .before .before .enum-told3 .given .1, c .unless4 .ensures, c .before .unless3 .ensures, is, d .before .before .page-follows .ensures)
 
 pub own-fault-spec : {M : Type 1} → statement M
 own-fault-spec =
@@ -56,6 +67,7 @@ own-fault-spec =
     unless-requires-2
     enum-told-3
     page-follows-requires
+    pages-to-requires
     is-protected-requires
     unless-requires-3
     unless-requires-4

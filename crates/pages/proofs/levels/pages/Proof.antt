@@ -22,7 +22,9 @@ unfolding foundFrom
 loop-holds c = (search needs, tried-none _ _ _)
 
 table-requires : tie.Need-table-requires Inv-loop μ-loop
-table-requires c κs = search needs
+table-requires c κs =
+    let loop = c .before in
+    (loop .loop .inv .1 .ordered (loop .before .before .pre), search needs)
 
 add-d : tie.Need-add-d Inv-loop μ-loop
 add-d c = search needs

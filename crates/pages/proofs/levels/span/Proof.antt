@@ -30,7 +30,9 @@ entry-requires : tie.Need-entry-requires Inv-loop μ-loop
 entry-requires c κs = search needs
 
 step-requires : tie.Need-step-requires Inv-loop μ-loop
-step-requires c κs = search needs
+step-requires c κs =
+    let loop = c .before .before in
+    (loop .loop .inv .1 .ordered (loop .before .before .pre .0), search needs)
 
 add-i : tie.Need-add-i Inv-loop μ-loop
 add-i c = search needs

@@ -1,8 +1,7 @@
 -- `step` meets its contract: an entry that is absent changes nothing, one that breaks a rule gives its number, and any other is counted.
-use mathlib.Core.Path.{sym, ap, _∙_}
+use mathlib.Core.Path.{sym, _∙_}
 use borrow.Author.Tests.{not-true, not-false}
-use Rattle.pages.specs.Rules.{after}
-use Rattle.pages.proofs.Tried.{tried-refused, step-absent, step-fault, step-passed, room}
+use Rattle.pages.proofs.Tried.{tried-refused, step-absent, step-fault, step-passed, above, room}
 use borrow.Author.Needs.{needs}
 use Rattle.pages.proofs.levels.step.Statement.{statement}
 use Rattle.pages.proofs.levels.step.Tie as tie
@@ -30,15 +29,17 @@ address-requires : tie.Need-address-requires
 address-requires c κs = search needs
 
 after-entry-requires : tie.Need-after-entry-requires
-after-entry-requires c κs = (room _ _ _ _ _ _ (sym (c .before .before .entry-fault .ensures) ∙ c .before .if3 .left), search needs)
+after-entry-requires c κs =
+    let none = sym (c .before .before .entry-fault .ensures) ∙ c .before .if3 .left in
+    let start = c .before .before .before .before .before .before .before .before .before in
+    (rw (c .address .ensures) (above _ _ _ _ _ _ none (start .pre .0)), (room _ _ _ _ _ _ none, search needs))
 
 returns-4 : tie.Need-returns-4
 returns-4 c =
     let d = c .before .before .before .before .before in
-    let a = d .before .before .before .before .before .args in
     step-passed _ _ _ _ _ _ _ (d .before .before .if1 .left) (sym (d .before .present .ensures) ∙ not-false _ (d .if2 .left))
     (sym (c .before .before .before .entry-fault .ensures) ∙ c .before .before .if3 .left)
-    (c .after-entry .ensures ∙ ap (after (a .kind) (a .r .state) (a .l)) (c .before .address .ensures))
+    (rw (c .before .address .ensures) at (c .after-entry .ensures))
 
 pub step-spec : {M : Type 1} → statement M
 step-spec =

@@ -12,10 +12,10 @@ level-requires : tie.Need-level-requires
 level-requires c κs = search needs
 
 level-requires-2 : tie.Need-level-requires-2
-level-requires-2 c κs = search needs
+level-requires-2 c κs = c .level .ensures .ordered (search needs)
 
 level-requires-3 : tie.Need-level-requires-3
-level-requires-3 c κs = search needs
+level-requires-3 c κs = c .level2 .ensures .ordered (c .before .level .ensures .ordered (search needs))
 
 returns : tie.Need-returns
 returns c =

@@ -1,5 +1,4 @@
 -- `is_protected` meets its contract: it tries the regions in their order.
-use Rattle.pages.specs.Memory.{protected}
 use Rattle.pages.proofs.Tests.{by-some, decided, left-to, last}
 use borrow.Author.Needs.{needs}
 use Rattle.pages.proofs.placement.is_protected.Statement.{statement}
@@ -15,16 +14,13 @@ inside-requires-3 : tie.Need-inside-requires-3
 inside-requires-3 c κs = search needs
 
 returns : tie.Need-returns
-unfolding protected
 returns c = decided by-some _ _ (c .before .inside .ensures) _ (c .if1 .taken)
 
 returns-2 : tie.Need-returns-2
-unfolding protected
 returns-2 c =
     left-to by-some _ _ (c .before .before .before .inside .ensures) _ _ (c .before .before .if1 .left) (decided by-some _ _ (c .before .inside2 .ensures) _ (c .if2 .taken))
 
 returns-3 : tie.Need-returns-3
-unfolding protected
 returns-3 c =
     left-to by-some _ _ (c .before .before .before .before .inside .ensures) _ _ (c .before .before .before .if1 .left)
     (left-to by-some _ _ (c .before .before .inside2 .ensures) _ _ (c .before .if2 .left) (last by-some _ _ (c .inside3 .ensures)))

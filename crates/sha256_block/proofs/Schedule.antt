@@ -1,87 +1,142 @@
--- The message schedule in sixteen words: the words behind sixteen are worked out of these alone, so that eight rounds at a time take
--- the words of their own numbers.
-use mathlib.Core.Path.{_≡_, _∙_, ap, ap₂, refl, sym}
+-- The message schedule in sixteen words: every round adds the word of its own number.
+use mathlib.Core.Path.{_≡_, _∙_, ap, ap₂, refl, subst, sym}
 use mathlib.Core.List.{List, [], _∷_, _++_}
+use mathlib.Core.Bool.{Bool, true, false}
 use Prim.Native.Nat.{ℕ, zero, suc, _+_, _-_, _%_, _<_, _≤_}
 use native.Mathlib.Nat.{add-zero, add-suc}
 use native.Mathlib.Omega.{arith}
-use lib.ListN.{length, take, drop, length-append, length-drop}
-use lib.Seq.{getD-take, getD-drop, take-length, take-append-le, drop-append-le, take-add, take-take, drop-drop}
+use borrow.Author.Tests.{ltb-true, ltb-false}
+use lib.Dec.{ltb}
+use lib.ListN.{length, take, drop, set, length-append, length-set, List·getD-append}
+use lib.Seq.{getD-take, getD-drop, getD-append-seam, getD-set-same, getD-set-other}
 use Rattle.sha256_block.specs.declared.block.Working.{Working}
-use Rattle.sha256_block.specs.declared.block.Eight.{Eight}
+use Rattle.sha256_block.specs.declared.block.Sixteen.{Sixteen}
+use Rattle.sha256_block.specs.Words.{_⊞_, σ₀, σ₁}
 use Rattle.sha256_block.specs.Constants.{K}
-use Rattle.sha256_block.specs.Block.{_!_, next, schedule, roundOf, rounds}
+use Rattle.sha256_block.specs.Block.{_!_, wordsOf, next, schedule, variables, roundOf, rounds, sumOf, compressOf}
+use Rattle.sha256_block.specs.Schedule.{W, held, roundsHeld, compressHeld, EveryRoundAddsItsOwn, Before, GroupHoldsItsOwn}
 use Rattle.sha256_block.specs.Inner.{listOf}
-use Rattle.sha256_block.proofs.BlockWords.{part}
+use Rattle.sha256_block.proofs.BlockWords.{length-words}
 
 -- ---- the schedule
-pub length-schedule : (n : ℕ) (m : List ℕ) → length (schedule n m) ≡ n + length m
+length-schedule : (n : ℕ) (m : List ℕ) → length (schedule n m) ≡ n + length m
 unfolding schedule
 length-schedule zero m = omega arith
 length-schedule (suc n) m = length-append (schedule n m) (next (schedule n m) ∷ []) ∙ omega (arith, length-schedule n m)
 
-pub none : (m : List ℕ) → schedule 0 m ≡ m
+-- words stay as more of them are worked out
+kept : (n p : ℕ) (m : List ℕ) (i : ℕ) → i < n + length m → schedule (n + p) m ! i ≡ schedule n m ! i
 unfolding schedule
+kept n zero m i h = ap (λ (j : ℕ). schedule j m ! i) (add-zero n)
+kept n (suc p) m i h =
+    ap (λ (j : ℕ). schedule j m ! i) (add-suc n p)
+    ∙ List·getD-append (schedule (n + p) m) (next (schedule (n + p) m) ∷ []) 0 i (omega (arith, length-schedule (n + p) m))
+    ∙ kept n p m i h
+
+-- the word that four words make
+four : {a b c d a′ b′ c′ d′ : ℕ} → a ≡ a′ → b ≡ b′ → c ≡ c′ → d ≡ d′ → σ₁ a ⊞ b ⊞ σ₀ c ⊞ d ≡ σ₁ a′ ⊞ b′ ⊞ σ₀ c′ ⊞ d′
+four ea eb ec ed = ap₂ (λ (x y : ℕ). x ⊞ y) (ap₂ (λ (x y : ℕ). x ⊞ y) (ap₂ (λ (x y : ℕ). σ₁ x ⊞ y) ea eb) (ap σ₀ ec)) ed
+
+module _ (m : List ℕ) (l : length m ≡ 16) where
+  short : (n i : ℕ) → n ≤ 48 → i < n + 16 → W m i ≡ schedule n m ! i
+  short n i h lt =
+      let e : n + (48 - n) ≡ 48 = omega arith in
+      ap (λ (j : ℕ). schedule j m ! i) (sym e) ∙ kept n (48 - n) m i (omega arith)
+
+  first-words : (t : ℕ) → t < 16 → W m t ≡ m ! t
+  unfolding schedule
+  first-words t lt = short 0 t (omega arith) (omega arith)
+
+  later-words : (t : ℕ) → 16 ≤ t → t < 64 → W m t ≡ σ₁ (W m (t - 2)) ⊞ W m (t - 7) ⊞ σ₀ (W m (t - 15)) ⊞ W m (t - 16)
+  unfolding schedule next
+  later-words t ge lt =
+      let w = schedule (t - 16) m in
+      let long : length w ≡ t = omega (arith, length-schedule (t - 16) m) in
+      let at : (j : ℕ) → 0 < j → j ≤ 16 → w ! (length w - j) ≡ W m (t - j) =
+      λ j p q. ap (λ (i : ℕ). w ! (i - j)) long ∙ sym (short (t - 16) (t - j) (omega arith) (omega arith)) in
+      short (suc (t - 16)) t (omega arith) (omega arith)
+      ∙ ap (λ (i : ℕ). (w ++ next w ∷ []) ! i) (sym long)
+      ∙ getD-append-seam w (next w) [] 0
+      ∙ four (at 2 (omega arith) (omega arith)) (at 7 (omega arith) (omega arith)) (at 15 (omega arith) (omega arith)) (at 16 (omega arith) (omega arith))
+
+  -- ---- sixteen words of it
+  length-held : (t : ℕ) → length (held t m) ≡ 16
+  unfolding held
+  length-held zero = l
+  length-held (suc t) = length-set (held t m) (t % 16) _ ∙ length-held t
+
+  -- the word of round i is held at its place before round t
+  abbrev At : ℕ → ℕ → Type 0
+  At t i = held t m ! (i % 16) ≡ W m i
+
+  -- round t leaves the words of the next fifteen rounds where they are
+  others-stay : (t i : ℕ) → t < i → i < t + 16 → At t i → At (suc t) i
+  unfolding held
+  others-stay t i p q e =
+      getD-set-other (held t m) (t % 16) (i % 16) _ 0 (λ same. absurd (omega arith)) ∙ e
+
+  -- and puts the word of round t + 16 in the place of its own
+  next-comes : (t : ℕ) → t + 16 < 64 → ((i : ℕ) → t ≤ i → i < t + 16 → At t i) → At (suc t) (t + 16)
+  unfolding held
+  next-comes t h all =
+      let p : (t + 16) % 16 ≡ t % 16 = omega arith in
+      let at : (j k : ℕ) → t + 16 - k ≡ j → 0 < k → k ≤ 16 → held t m ! (j % 16) ≡ W m (t + 16 - k) =
+      λ j k e lt le. all j (omega arith) (omega arith) ∙ ap (W m) (sym e) in
+      ap (λ (i : ℕ). held (suc t) m ! i) p
+      ∙ getD-set-same (held t m) (t % 16) _ 0 (omega (arith, length-held t))
+      ∙ four (at (t + 14) 2 (omega arith) (omega arith) (omega arith)) (at (t + 9) 7 (omega arith) (omega arith) (omega arith))
+      (at (t + 1) 15 (omega arith) (omega arith) (omega arith)) (at t 16 (omega arith) (omega arith) (omega arith))
+      ∙ sym (later-words (t + 16) (omega arith) h)
+
+  at-place : (t i : ℕ) → t ≤ i → i < t + 16 → i < 64 → At t i
+  unfolding held
+  at-place zero i p q h = ap (λ (j : ℕ). m ! j) (omega arith) ∙ sym (first-words i (omega arith))
+  at-place (suc t) i p q h = by (ltb i (t + 16)) refl (at-place t)
+    where
+      by : (b : Bool) → ltb i (t + 16) ≡ b → ((k : ℕ) → t ≤ k → k < t + 16 → k < 64 → At t k) → At (suc t) i
+      by true e all =
+          let lt : i < t + 16 = ltb-true i (t + 16) e in
+          others-stay t i (omega arith) lt (all i (omega arith) lt h)
+      by false e all =
+          let last : t + 16 ≡ i = omega (arith, ltb-false i (t + 16) e) in
+          subst (At (suc t)) last (next-comes t (omega arith) (λ k ge lt. all k ge lt (omega arith)))
+
+pub own-words : EveryRoundAddsItsOwn
+own-words m l =
+    record {
+      first = first-words m l;
+      later = later-words m l;
+      holds = λ t j p h. at-place m l t (t + j) (omega arith) (omega arith) h;
+      adds = λ t h. at-place m l t t (omega arith) (omega arith) h;
+    }
+
+-- ---- the places of sixteen words
+pub none : (m : List ℕ) → held 0 m ≡ m
+unfolding held
 none m = refl
 
--- one word more than a list that is known
-pub extend : (n : ℕ) (m : List ℕ) {l : List ℕ} {x : ℕ} → schedule n m ≡ l → x ≡ next l → schedule (suc n) m ≡ l ++ (x ∷ [])
-unfolding schedule
-extend n m e h = rw (e, ← h)
+-- one word more in the place of one that is used up
+pub renew : (t : ℕ) (m : List ℕ) {w : List ℕ} {x : ℕ} → held t m ≡ w
+    → x ≡ σ₁ (w ! ((t + 14) % 16)) ⊞ w ! ((t + 9) % 16) ⊞ σ₀ (w ! ((t + 1) % 16)) ⊞ w ! (t % 16)
+    → held (suc t) m ≡ set w (t % 16) x
+unfolding held
+renew t m {w} {x} e h =
+    ap (λ (v : List ℕ). set v (t % 16) (σ₁ (v ! ((t + 14) % 16)) ⊞ v ! ((t + 9) % 16) ⊞ σ₀ (v ! ((t + 1) % 16)) ⊞ v ! (t % 16))) e
+    ∙ ap (set w (t % 16)) (sym h)
 
--- words stay as more of them are worked out
-kept : (n p : ℕ) (m : List ℕ) → take (n + length m) (schedule (n + p) m) ≡ schedule n m
-unfolding schedule
-kept n zero m =
-    rw (add-zero n) (ap (λ (j : ℕ). take j (schedule n m)) (sym (length-schedule n m)) ∙ take-length (schedule n m))
-kept n (suc p) m =
-    ap (λ (j : ℕ). take (n + length m) (schedule j m)) (add-suc n p)
-    ∙ take-append-le (n + length m) (schedule (n + p) m) (next (schedule (n + p) m) ∷ []) (omega (arith, length-schedule (n + p) m))
-    ∙ kept n p m
-
--- the next word takes none but the last sixteen
-next-drop : (t : ℕ) (w : List ℕ) → t + 16 ≤ length w → next (drop t w) ≡ next w
-unfolding next
-next-drop t w h =
-    let at : (j : ℕ) → j ≤ 16 → 0 < j → drop t w ! (length w - t - j) ≡ w ! (length w - j) =
-    λ j le lt. getD-drop t w (length w - t - j) 0 ∙ ap (λ (i : ℕ). w ! i) (omega arith) in
-    rw (length-drop t w, at 2 (omega arith) (omega arith), at 7 (omega arith) (omega arith), at 15 (omega arith) (omega arith), at 16 (omega arith) (omega arith))
-
--- so the schedule goes on from any sixteen words of it
-moved : (t n : ℕ) (m : List ℕ) → length m ≡ 16 → schedule n (drop t (schedule t m)) ≡ drop t (schedule (t + n) m)
-unfolding schedule
-moved t zero m l = ap (λ (j : ℕ). drop t (schedule j m)) (sym (add-zero t))
-moved t (suc n) m l =
-    let w = schedule (t + n) m in
-    let long : length w ≡ t + n + 16 = omega (arith, length-schedule (t + n) m) in
-    rw (moved t n m l)
-    (ap (λ (x : ℕ). drop t w ++ (x ∷ [])) (next-drop t w (omega arith))
-    ∙ sym (drop-append-le t w (next w ∷ []) (omega arith))
-    ∙ ap (λ (j : ℕ). drop t (schedule j m)) (sym (add-suc t n)))
-
-module _ (m : List ℕ) (N : ℕ) (l : length m ≡ 16) where
-  -- n words more than sixteen, from word t on
-  behind : (t n : ℕ) → t + n ≤ N → take (16 + n) (drop t (schedule N m)) ≡ drop t (schedule (t + n) m)
-  behind t n h =
-      let e : t + n + (N - (t + n)) ≡ N = omega arith in
-      let f : t + (16 + n) ≡ t + n + length m = omega arith in
-      sym (part t (16 + n) (schedule N m))
-      ∙ ap (drop t) (rw (f, ← e) (kept (t + n) (N - (t + n)) m))
-
-  -- the eight words from t + 16 on, from the eight before them and the eight before those
-  pub eight-later : (t : ℕ) (u v : List ℕ) → t + 8 ≤ N → u ≡ take 8 (drop t (schedule N m)) → v ≡ take 8 (drop (t + 8) (schedule N m))
-      → drop 16 (schedule 8 (u ++ v)) ≡ take 8 (drop (t + 16) (schedule N m))
-  eight-later t u v h eu ev =
-      let W = schedule N m in
-      let both : u ++ v ≡ take 16 (drop t W) =
-      ap₂ (λ (x y : List ℕ). x ++ y) eu (ev ∙ ap (take 8) (sym (drop-drop 8 t W))) ∙ sym (take-add 8 8 (drop t W)) in
-      let now : take 16 (drop t W) ≡ drop t (schedule t m) =
-      behind t 0 (omega arith) ∙ ap (λ (j : ℕ). drop t (schedule j m)) (add-zero t) in
-      let all : schedule 8 (u ++ v) ≡ take 24 (drop t W) =
-      ap (schedule 8) (both ∙ now) ∙ moved t 8 m l ∙ sym (behind t 8 h) in
-      ap (drop 16) all
-      ∙ part 16 8 (drop t W)
-      ∙ ap (take 8) (drop-drop 16 t W)
+-- after whole groups of rounds the places begin anew
+held-add : (t n : ℕ) (m : List ℕ) → t % 16 ≡ 0 → held n (held t m) ≡ held (t + n) m
+unfolding held
+held-add t zero m e = ap (λ (j : ℕ). held j m) (sym (add-zero t))
+held-add t (suc n) m e =
+    let w = held n (held t m) in
+    let x = σ₁ (w ! ((t + n + 14) % 16)) ⊞ w ! ((t + n + 9) % 16) ⊞ σ₀ (w ! ((t + n + 1) % 16)) ⊞ w ! ((t + n) % 16) in
+    let p : (t + n) % 16 ≡ n % 16 = omega arith in
+    let at : (j : ℕ) → w ! ((t + n + j) % 16) ≡ w ! ((n + j) % 16) = λ j. ap (λ (i : ℕ). w ! i) (omega arith) in
+    renew n (held t m) refl (four (at 14) (at 9) (at 1) (ap (λ (i : ℕ). w ! i) p))
+    ∙ ap (λ (i : ℕ). set w i x) (sym p)
+    ∙ sym (renew (t + n) m (sym (held-add t n m e)) refl)
+    ∙ ap (λ (j : ℕ). held j m) (sym (add-suc t n))
 
 -- ---- the rounds
 pub no-round : (s : Working) (k w : List ℕ) → s ≡ rounds 0 s k w
@@ -92,50 +147,46 @@ pub one-more : (n : ℕ) (s x : Working) (k w : List ℕ) {r : Working} → x �
 unfolding rounds
 one-more n s x k w ex e = e ∙ ap (λ (y : Working). roundOf y (k ! n) (w ! n)) ex
 
-rounds-add : (t n : ℕ) (s : Working) (k w : List ℕ) → rounds (t + n) s k w ≡ rounds n (rounds t s k w) (drop t k) (drop t w)
-unfolding rounds
-rounds-add t zero s k w = ap (λ (j : ℕ). rounds j s k w) (add-zero t)
-rounds-add t (suc n) s k w =
-    ap (λ (j : ℕ). rounds j s k w) (add-suc t n) ∙ rw (rounds-add t n s k w, getD-drop t k n 0, getD-drop t w n 0)
+-- with sixteen words the rounds are those of FIPS 180-4
+module _ (m : List ℕ) (l : length m ≡ 16) where
+  same-rounds : (n : ℕ) (s : Working) → n ≤ 64 → roundsHeld n s m ≡ rounds n s K (schedule 48 m)
+  unfolding rounds roundsHeld
+  same-rounds zero s h = refl
+  same-rounds (suc n) s h =
+      ap₂ (λ (x : Working) (w : ℕ). roundOf x (K ! n) w) (same-rounds n s (omega arith)) (own-words m l .adds n (omega arith))
 
-rounds-take : (n j : ℕ) (s : Working) (k w : List ℕ) → n ≤ j → rounds n s (take j k) (take j w) ≡ rounds n s k w
-unfolding rounds
-rounds-take zero j s k w h = refl
-rounds-take (suc n) j s k w h = rw (rounds-take n j s k w (omega arith), getD-take j k n 0 h, getD-take j w n 0 h)
+  -- n of the sixteen rounds from t on, each with the word of its number
+  group : (t n : ℕ) (s : Working) (w : List ℕ) → t ≤ 48 → n ≤ 16 → ((j : ℕ) → j < 16 → w ! j ≡ W m (t + j))
+      → rounds n (roundsHeld t s m) (take 16 (drop t K)) w ≡ roundsHeld (t + n) s m
+  unfolding rounds roundsHeld
+  group t zero s w h le own = ap (λ (j : ℕ). roundsHeld j s m) (sym (add-zero t))
+  group t (suc n) s w h le own =
+      let k : take 16 (drop t K) ! n ≡ K ! (t + n) = getD-take 16 (drop t K) n 0 le ∙ getD-drop t K n 0 in
+      ap₂ (λ (x : Working) (y : ℕ). roundOf x y (w ! n)) (group t n s w h (omega arith) own) k
+      ∙ ap (roundOf (roundsHeld (t + n) s m) (K ! (t + n))) (own n le ∙ sym (own-words m l .adds (t + n) (omega arith)))
+      ∙ ap (λ (j : ℕ). roundsHeld j s m) (sym (add-suc t n))
 
--- ---- before round t of a block with the words m, from the working variables s on: each round so far took its own word of the
--- schedule, and u and v have those of the next sixteen, as far as there are so many
-pub record Before (t : ℕ) (s : Working) (m : List ℕ) (x : Working) (u v : Eight) : Type 0 where
-  pub working : x ≡ rounds t s K (schedule 48 m)
-  pub first : t < 64 → listOf u ≡ take 8 (drop t (schedule 48 m))
-  pub second : t < 56 → listOf v ≡ take 8 (drop (t + 8) (schedule 48 m))
+pub compress-held : (h block : List ℕ) → compressHeld h block ≡ compressOf h block
+unfolding compressHeld compressOf
+compress-held h block =
+    ap (λ (x : Working). sumOf x h) (same-rounds (wordsOf 16 block) (length-words 16 block) 64 (variables h) (omega arith))
 
-pub eight-more : (t : ℕ) (s : Working) (m : List ℕ) (x x′ : Working) (u v v′ : Eight) (k : List ℕ) → length m ≡ 16 → t % 8 ≡ 0 → t < 64 → Before t s m x u v
-    → x′ ≡ rounds 8 x k (listOf u) → k ≡ take 8 (drop t K) → (t < 48 → listOf v′ ≡ drop 16 (schedule 8 (listOf u ++ listOf v)))
-    → Before (t + 8) s m x′ v v′
-eight-more t s m x x′ u v v′ k l d h b ex ek ev =
-    let W = schedule 48 m in
-    let e : t + 16 ≡ t + 8 + 8 = omega arith in
+-- ---- the groups of rounds
+pub none-yet : (s x : Working) (m : List ℕ) (w : Sixteen) → x ≡ s → listOf w ≡ m → Before 0 s m x w
+unfolding held roundsHeld
+none-yet s x m w p q = record { working = p; words = λ le. q }
+
+pub group-holds-own : GroupHoldsItsOwn
+group-holds-own t s m x w l d h b j lt =
+    let p : j ≡ (t + j) % 16 = omega arith in
+    ap (λ (v : List ℕ). v ! j) (b .words h) ∙ ap (λ (i : ℕ). held t m ! i) p ∙ own-words m l .holds t j lt (omega arith)
+
+pub sixteen-more : (t : ℕ) (s : Working) (m : List ℕ) (x x′ : Working) (w w′ : Sixteen) (k : List ℕ) → length m ≡ 16 → t % 16 ≡ 0 → t < 64 → Before t s m x w
+    → x′ ≡ rounds 16 x k (listOf w) → k ≡ take 16 (drop t K) → (t < 48 → listOf w′ ≡ held 16 (listOf w))
+    → Before (t + 16) s m x′ w′
+sixteen-more t s m x x′ w w′ k l d h b ex ek ew =
+    let le : t ≤ 48 = omega arith in
     record {
-      working =
-          ex
-          ∙ rw (b .working, ek, b .first h) (rounds-take 8 8 (rounds t s K W) (drop t K) (drop t W) (omega arith))
-          ∙ sym (rounds-add t 8 s K W);
-      first = λ lt. b .second (omega arith);
-      second =
-          λ lt. ev (omega arith)
-          ∙ eight-later m 48 l t (listOf u) (listOf v) (omega arith) (b .first h) (b .second (omega arith))
-          ∙ ap (λ (j : ℕ). take 8 (drop j W)) e;
-    }
-
--- the schedule begins with the words of the block
-pub none-yet : (s x : Working) (m : List ℕ) (u v : Eight) → length m ≡ 16 → x ≡ s → listOf u ++ listOf v ≡ m → Before 0 s m x u v
-unfolding rounds
-none-yet s x m u v l p q =
-    let n : 0 + length m ≡ 16 = omega arith in
-    let e : listOf u ++ listOf v ≡ take 16 (schedule 48 m) = q ∙ sym (kept 0 48 m ∙ none m) ∙ ap (λ (j : ℕ). take j (schedule 48 m)) n in
-    record {
-      working = p;
-      first = λ lt. ap (take 8) e ∙ take-take 8 16 (schedule 48 m) (omega arith);
-      second = λ lt. ap (drop 8) e ∙ part 8 8 (schedule 48 m);
+      working = ex ∙ rw (b .working, ek) (group m l t 16 s (listOf w) le (omega arith) (group-holds-own t s m x w l d le b));
+      words = λ more. ew (omega arith) ∙ ap (held 16) (b .words le) ∙ held-add t 16 m d;
     }

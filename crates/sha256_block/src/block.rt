@@ -1,5 +1,6 @@
-// The hash value after one block: FIPS 180-4, section 6.2.2. Sixteen words, in two structs, hold the part of the schedule that is in
-// use.
+// The hash value after one block: FIPS 180-4, section 6.2.2. Of the message schedule sixteen words are held, and each new one takes
+// the place of one that is used up.
+use crate::constants::constants;
 use crate::word::add;
 use crate::word::big_sigma0;
 use crate::word::big_sigma1;
@@ -9,13 +10,12 @@ use crate::word::maj;
 use crate::word::small_sigma0;
 use crate::word::small_sigma1;
 ghost use mathlib.Core.Path.{_≡_};
-ghost use mathlib.Core.List.{_++_};
-ghost use Prim.Native.Nat.{_+_, _*_, _<_, _≤_};
+ghost use Prim.Native.Nat.{_+_, _<_, _≤_};
 ghost use lib.ListN.{length, take, drop};
 ghost use Rattle.sha256_block.specs.Words.{_⊞_, σ₀, σ₁};
-ghost use Rattle.sha256_block.specs.Constants as spec;
 ghost use Rattle.sha256_block.specs.Block as fips;
-ghost use Rattle.sha256_block.specs.Block.{wordOf, wordsOf, schedule, roundOf, rounds, sumOf, compressOf};
+ghost use Rattle.sha256_block.specs.Block.{wordOf, wordsOf, roundOf, rounds, sumOf};
+ghost use Rattle.sha256_block.specs.Schedule.{held, compressHeld};
 ghost use Rattle.sha256_block.specs.Inner.{listOf};
 
 // The eight working variables.
@@ -30,8 +30,8 @@ pub struct Working {
     pub h: u32,
 }
 
-// Eight words one behind the other, of the schedule or of the constants.
-pub struct Eight {
+// Sixteen words one behind the other, of the schedule or of the constants.
+pub struct Sixteen {
     pub w0: u32,
     pub w1: u32,
     pub w2: u32,
@@ -40,6 +40,14 @@ pub struct Eight {
     pub w5: u32,
     pub w6: u32,
     pub w7: u32,
+    pub w8: u32,
+    pub w9: u32,
+    pub w10: u32,
+    pub w11: u32,
+    pub w12: u32,
+    pub w13: u32,
+    pub w14: u32,
+    pub w15: u32,
 }
 
 fn round(s: Working, k: u32, w: u32) -> Working
@@ -59,9 +67,9 @@ fn round(s: Working, k: u32, w: u32) -> Working
     }
 }
 
-// Eight rounds, with their constants and words.
-fn eight_rounds(s: Working, k: Eight, w: Eight) -> Working
-    ensures { λ r. ⌜ r ≡ rounds 8 s (listOf k) (listOf w) ⌝ }
+// Sixteen rounds, with their constants and words.
+fn sixteen_rounds(s: Working, k: Sixteen, w: Sixteen) -> Working
+    ensures { λ r. ⌜ r ≡ rounds 16 s (listOf k) (listOf w) ⌝ }
 {
     let s1 = round(s, k.w0, w.w0);
     let s2 = round(s1, k.w1, w.w1);
@@ -70,7 +78,15 @@ fn eight_rounds(s: Working, k: Eight, w: Eight) -> Working
     let s5 = round(s4, k.w4, w.w4);
     let s6 = round(s5, k.w5, w.w5);
     let s7 = round(s6, k.w6, w.w6);
-    round(s7, k.w7, w.w7)
+    let s8 = round(s7, k.w7, w.w7);
+    let s9 = round(s8, k.w8, w.w8);
+    let s10 = round(s9, k.w9, w.w9);
+    let s11 = round(s10, k.w10, w.w10);
+    let s12 = round(s11, k.w11, w.w11);
+    let s13 = round(s12, k.w12, w.w12);
+    let s14 = round(s13, k.w13, w.w13);
+    let s15 = round(s14, k.w14, w.w14);
+    round(s15, k.w15, w.w15)
 }
 
 // The word that comes 2, 7, 15 and 16 places after these.
@@ -80,55 +96,38 @@ fn extended(w2: u32, w7: u32, w15: u32, w16: u32) -> u32
     add(add(add(small_sigma1(w2), w7), small_sigma0(w15)), w16)
 }
 
-// The eight words of the schedule behind sixteen.
-fn next_words(u: Eight, v: Eight) -> Eight
-    ensures { λ r. ⌜ listOf r ≡ drop 16 (schedule 8 (listOf u ++ listOf v)) ⌝ }
+// The sixteen words that come behind sixteen. Each takes the place of the one that is sixteen before it, which is used up.
+fn next_words(words: Sixteen) -> Sixteen
+    ensures { λ r. ⌜ listOf r ≡ held 16 (listOf words) ⌝ }
 {
-    let n0 = extended(v.w6, v.w1, u.w1, u.w0);
-    let n1 = extended(v.w7, v.w2, u.w2, u.w1);
-    let n2 = extended(n0, v.w3, u.w3, u.w2);
-    let n3 = extended(n1, v.w4, u.w4, u.w3);
-    let n4 = extended(n2, v.w5, u.w5, u.w4);
-    let n5 = extended(n3, v.w6, u.w6, u.w5);
-    let n6 = extended(n4, v.w7, u.w7, u.w6);
-    let n7 = extended(n5, n0, v.w0, u.w7);
-    Eight {
-        w0: n0,
-        w1: n1,
-        w2: n2,
-        w3: n3,
-        w4: n4,
-        w5: n5,
-        w6: n6,
-        w7: n7,
-    }
+    let mut w = words;
+    w.w0 = extended(w.w14, w.w9, w.w1, w.w0);
+    w.w1 = extended(w.w15, w.w10, w.w2, w.w1);
+    w.w2 = extended(w.w0, w.w11, w.w3, w.w2);
+    w.w3 = extended(w.w1, w.w12, w.w4, w.w3);
+    w.w4 = extended(w.w2, w.w13, w.w5, w.w4);
+    w.w5 = extended(w.w3, w.w14, w.w6, w.w5);
+    w.w6 = extended(w.w4, w.w15, w.w7, w.w6);
+    w.w7 = extended(w.w5, w.w0, w.w8, w.w7);
+    w.w8 = extended(w.w6, w.w1, w.w9, w.w8);
+    w.w9 = extended(w.w7, w.w2, w.w10, w.w9);
+    w.w10 = extended(w.w8, w.w3, w.w11, w.w10);
+    w.w11 = extended(w.w9, w.w4, w.w12, w.w11);
+    w.w12 = extended(w.w10, w.w5, w.w13, w.w12);
+    w.w13 = extended(w.w11, w.w6, w.w14, w.w13);
+    w.w14 = extended(w.w12, w.w7, w.w15, w.w14);
+    w.w15 = extended(w.w13, w.w8, w.w0, w.w15);
+    w
 }
 
 // The same, where rounds will need them.
-fn needed_words(t: usize, u: Eight, v: Eight) -> Eight
-    ensures { λ r. ⌜ (t < 48 → listOf r ≡ drop 16 (schedule 8 (listOf u ++ listOf v))) ⌝ }
+fn needed_words(t: usize, w: Sixteen) -> Sixteen
+    ensures { λ r. ⌜ (t < 48 → listOf r ≡ held 16 (listOf w)) ⌝ }
 {
     if t < 48 {
-        return next_words(u, v);
+        return next_words(w);
     }
-    v
-}
-
-// The eight constants of the rounds from t on.
-fn constants(k: &[u32], t: usize) -> Eight
-    requires { ⌜ t + 8 ≤ length (now k) ⌝ }
-    ensures { λ r. ⌜ listOf r ≡ take 8 (drop t (now (k .entry))) ⌝ }
-{
-    Eight {
-        w0: k[t],
-        w1: k[t + 1],
-        w2: k[t + 2],
-        w3: k[t + 3],
-        w4: k[t + 4],
-        w5: k[t + 5],
-        w6: k[t + 6],
-        w7: k[t + 7],
-    }
+    w
 }
 
 fn variables(h: [u32; 8]) -> Working
@@ -169,40 +168,45 @@ fn word_at(s: &[u8], i: usize) -> u32
     joined(s[i], s[i + 1], s[i + 2], s[i + 3])
 }
 
-// Eight words from a place on.
-fn load(s: &[u8], i: usize) -> Eight
-    requires { ⌜ i + 32 ≤ length (now s) ⌝ }
-    ensures { λ r. ⌜ listOf r ≡ wordsOf 8 (drop i (now (s .entry))) ⌝ }
+// The words of a block.
+fn load(block: &[u8]) -> Sixteen
+    requires { ⌜ length (now block) ≡ 64 ⌝ }
+    ensures { λ r. ⌜ listOf r ≡ wordsOf 16 (now (block .entry)) ⌝ }
 {
-    Eight {
-        w0: word_at(s, i),
-        w1: word_at(s, i + 4),
-        w2: word_at(s, i + 8),
-        w3: word_at(s, i + 12),
-        w4: word_at(s, i + 16),
-        w5: word_at(s, i + 20),
-        w6: word_at(s, i + 24),
-        w7: word_at(s, i + 28),
+    Sixteen {
+        w0: word_at(block, 0),
+        w1: word_at(block, 4),
+        w2: word_at(block, 8),
+        w3: word_at(block, 12),
+        w4: word_at(block, 16),
+        w5: word_at(block, 20),
+        w6: word_at(block, 24),
+        w7: word_at(block, 28),
+        w8: word_at(block, 32),
+        w9: word_at(block, 36),
+        w10: word_at(block, 40),
+        w11: word_at(block, 44),
+        w12: word_at(block, 48),
+        w13: word_at(block, 52),
+        w14: word_at(block, 56),
+        w15: word_at(block, 60),
     }
 }
 
-// The hash value after the block at a place. Before round t the words of the rounds t to t + 15 are in u and v. The constants come
-// from the caller, since a reference to them copies them.
-pub(crate) fn compress(h: [u32; 8], k: &[u32], s: &[u8], i: usize) -> [u32; 8]
-    requires { ⌜ (now k ≡ spec.K) × (i + 64 ≤ length (now s)) ⌝ }
-    ensures { λ r. ⌜ r ≡ compressOf h (drop i (now (s .entry))) ⌝ }
+// The hash value after one block more. Before the group of rounds that begins at t, w holds the words of the rounds t to t + 15.
+pub(crate) fn compress(h: [u32; 8], s: &[u8], i: usize) -> [u32; 8]
+    requires { ⌜ i + 64 ≤ length (now s) ⌝ }
+    ensures { λ r. ⌜ r ≡ compressHeld h (take 64 (drop i (now (s .entry)))) ⌝ }
 {
     let mut x = variables(h);
-    let mut u = load(s, i);
-    let mut v = load(s, i + 32);
+    let mut w = load(&s[i..i + 64]);
     let mut t = 0;
     while t < 64 {
-        let next = eight_rounds(x, constants(k, t), u);
-        let words = needed_words(t, u, v);
+        let next = sixteen_rounds(x, constants(t), w);
+        let words = needed_words(t, w);
         x = next;
-        u = v;
-        v = words;
-        t += 8;
+        w = words;
+        t += 16;
     }
     sum(x, h)
 }

@@ -3,7 +3,6 @@ mod block;
 mod constants;
 mod word;
 
-use crate::constants::K;
 ghost use mathlib.Core.Path.{_≡_};
 ghost use Rattle.sha256_block.specs.Block.{hashBlocks};
 
@@ -12,12 +11,11 @@ ghost use Rattle.sha256_block.specs.Block.{hashBlocks};
 pub fn hash_blocks(h: [u32; 8], s: &[u8]) -> [u32; 8]
     ensures { λ r. ⌜ r ≡ hashBlocks h (now (s .entry)) ⌝ }
 {
-    let constants: &[u32] = &K;
     let n = s.len() / 64;
     let mut words = h;
     let mut k = 0;
     while k < n {
-        let next = block::compress(words, constants, s, 64 * k);
+        let next = block::compress(words, s, 64 * k);
         words = next;
         k += 1;
     }

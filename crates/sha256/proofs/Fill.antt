@@ -1,18 +1,20 @@
--- An array that a loop fills from its front with the elements of a list.
-use mathlib.Core.Path.{_≡_, _∙_, ap₂, sym}
-use mathlib.Core.List.{List, [], _∷_, _++_}
-use Prim.Native.Nat.{ℕ, _+_, _<_}
+-- A loop that writes the elements of a list one behind the other into a place of an array or of a slice.
+use mathlib.Core.Path.{_≡_, _∙_, ap, ap₂, sym}
+use mathlib.Core.List.{List, _++_, append-nil}
+use Prim.Native.Nat.{ℕ, _+_, _<_, _≤_}
 use native.Mathlib.Numerals.{add-one}
-use native.Mathlib.Nat.{le-of-eq}
-use lib.ListN.{length, take, set, getD}
-use lib.Seq.{take-suc, take-suc-set, take-all}
+use native.Mathlib.Omega.{arith}
+use lib.ListN.{length, set, getD, drop-of-length-le}
+use lib.Seq.{paste, paste-suc, take-all}
 
 -- one element more
-pub fill-step : (a l : List ℕ) (i x : ℕ) → i < length a → i < length l → take i a ≡ take i l → x ≡ getD l i 0 → take (i + 1) (set a i x) ≡ take (i + 1) l
-fill-step a l i x ha hl e v =
-    rw add-one
-    (take-suc-set a i x ha ∙ ap₂ (λ (p : List ℕ) (y : ℕ). p ++ (y ∷ [])) e v ∙ sym (take-suc l i 0 hl))
+pub fill-step : (d l b : List ℕ) (at k x : ℕ) → at + length l ≤ length d → k < length l → b ≡ paste d at l k → x ≡ getD l k 0 → set b (at + k) x ≡ paste d at l (k + 1)
+fill-step d l b at k x room h e v =
+    ap₂ (λ (y : List ℕ) (z : ℕ). set y (at + k) z) e v
+    ∙ paste-suc d at l k 0 (omega arith) h
+    ∙ ap (paste d at l) (sym (add-one k))
 
--- all of them
-pub fill-end : (a l : List ℕ) (i : ℕ) → i ≡ length a → i ≡ length l → take i a ≡ take i l → a ≡ l
-fill-end a l i ha hl e = sym (take-all i a (le-of-eq (sym ha))) ∙ e ∙ take-all i l (le-of-eq (sym hl))
+-- all of them, over a whole array
+pub fill-end : (d l b : List ℕ) (k : ℕ) → k ≡ length d → k ≡ length l → b ≡ paste d 0 l k → b ≡ l
+fill-end d l b k hd hl e =
+    e ∙ ap₂ _++_ (take-all k l (omega arith)) (drop-of-length-le d {i = 0 + k} (omega arith)) ∙ append-nil l

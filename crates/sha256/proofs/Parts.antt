@@ -10,7 +10,7 @@ use lib.Seq.{take-append-le, drop-append-le, drop-drop}
 use Rattle.sha256.specs.declared.Running.{Running}
 use Rattle.sha256_block.specs.Block.{compressOf, hash, hashBlocks}
 use Rattle.sha256.specs.Message.{H0, padding, digestOf, sha256}
-use Rattle.sha256.specs.State.{remainder, started, Absorbed, finishOf, Holds}
+use Rattle.sha256.specs.State.{pending, remainder, started, Absorbed, finishOf, Holds}
 use Rattle.sha256.proofs.Padding.{padding-mod}
 
 -- blocks do not depend on what comes behind them
@@ -71,10 +71,14 @@ absorb-holds s r m part holds done =
           ∙ ap (λ (n : ℕ). n % 2 ^ 64) (sym (length-append m part));
     }
 
+-- the digest of a message, from the hash value after its whole blocks and what it leaves behind them
+pub digest-parts : (m h x : List ℕ) → h ≡ hashBlocks H0 m → x ≡ remainder m → digestOf (hashBlocks h (x ++ padding (length m))) ≡ sha256 m
+unfolding sha256
+digest-parts m h x eh ex =
+    ap digestOf (ap₂ (λ (g y : List ℕ). hashBlocks g (y ++ padding (length m))) eh ex ∙ hash-parts m (padding (length m)) H0)
+
 pub finish-holds : (s : Running) (m : List ℕ) → Holds s m → finishOf s ≡ sha256 m
-unfolding finishOf sha256
+unfolding finishOf
 finish-holds s m holds =
-    ap digestOf
-    (ap₂ (λ (h x : List ℕ). hashBlocks h (x ++ padding (s .total))) (holds .words) (holds .waits)
-    ∙ ap (λ (x : List ℕ). hashBlocks (hashBlocks H0 m) (remainder m ++ x)) (ap padding (holds .total) ∙ padding-mod (length m))
-    ∙ hash-parts m (padding (length m)) H0)
+    ap (λ (x : List ℕ). digestOf (hashBlocks (s .words) (pending s ++ x))) (ap padding (holds .total) ∙ padding-mod (length m))
+    ∙ digest-parts m (s .words) (pending s) (holds .words) (holds .waits)

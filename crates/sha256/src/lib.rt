@@ -3,10 +3,12 @@ mod number;
 
 use sha256_block::hash_blocks;
 ghost use mathlib.Core.Path.{_≡_};
-ghost use Prim.Native.Nat.{_+_, _*_, _≤_, _%_, _-_};
-ghost use lib.ListN.{length, take, drop};
+ghost use mathlib.Core.List.{_++_};
+ghost use Prim.Native.Nat.{_+_, _≤_, _%_};
+ghost use lib.ListN.{length, take, replicate};
 ghost use lib.Seq.{paste};
-ghost use Rattle.sha256.specs.Message.{padding, zeros, digestOf, sha256};
+ghost use Rattle.sha256_block.specs.Block.{hashBlocks};
+ghost use Rattle.sha256.specs.Message.{padding, digestOf, sha256};
 ghost use Rattle.sha256.specs.State.{started, Absorbed, finishOf};
 
 // The initial hash value, as FIPS 180-4, 5.3.3, prints it.
@@ -41,64 +43,60 @@ pub fn start() -> Running
     }
 }
 
-// The block with the bytes of s put in at a place.
-fn filled(block: [u8; 64], at: usize, s: &[u8]) -> [u8; 64]
-    requires { ⌜ at + length (now s) ≤ 64 ⌝ }
-    ensures { λ r. ⌜ r ≡ paste block at (now (s .entry)) (length (now (s .entry))) ⌝ }
+// The bytes of s, written to b at a place.
+fn put(b: &mut [u8], at: usize, s: &[u8])
+    requires { ⌜ at + length (now s) ≤ length (now b) ⌝ }
+    ensures { λ r. ⌜ now (b .exit) ≡ paste (now (b .entry)) at (now (s .entry)) (length (now (s .entry))) ⌝ }
 {
-    let mut b = block;
     let mut k = 0;
     while k < s.len() {
         b[at + k] = s[k];
         k += 1;
     }
-    b
 }
 
-// The state after one part more of the message.
+// The state after one part more of the message. One block is filled in place, hashed, and holds the rest of the part.
 pub fn absorb(s: Running, part: &[u8]) -> Running
     ensures { λ r. ⌜ Absorbed s (now (part .entry)) r ⌝ }
 {
     let fill = (s.total % 64) as usize;
     let total = std::num::wrapping_add_u64(s.total, part.len() as u64);
     let room = 64 - fill;
-    let block = s.block;
+    let mut block = s.block;
     let words = s.words;
     if part.len() < room {
-        let b = filled(block, fill, part);
+        put(&mut block, fill, part);
         return Running {
             words: words,
-            block: b,
+            block: block,
             total: total,
         };
     }
-    let b = filled(block, fill, &part[..room]);
-    let first = hash_blocks(words, &b);
+    put(&mut block, fill, &part[..room]);
+    let first = hash_blocks(words, &block);
     let behind = &part[room..];
     let all = hash_blocks(first, behind);
     let at = behind.len() / 64 * 64;
-    let rest = filled(b, 0, &behind[at..]);
+    put(&mut block, 0, &behind[at..]);
     Running {
         words: all,
-        block: rest,
+        block: block,
         total: total,
     }
 }
 
-// The padding of a message of so many bytes, at the front of the array.
-fn padded(total: u64) -> [u8; 72]
-    ensures { λ r. ⌜ take (zeros total + 9) r ≡ padding total ⌝ }
+// The bytes behind the whole blocks of a message of `total` bytes, and its padding, written to the front of 128 zeros: how many bytes
+// they are.
+fn pad(p: &mut [u8], rest: &[u8], total: u64) -> usize
+    requires { ⌜ (now p ≡ replicate 128 0) × (length (now rest) ≡ total % 64) ⌝ }
+    ensures { λ r. ⌜ (r ≤ 128) × (take r (now (p .exit)) ≡ now (rest .entry) ++ padding total) ⌝ }
 {
-    let bits = total << 3;
-    let z = (119 - (total % 64) as usize) % 64;
-    let mut p = [0u8; 72];
-    p[0] = 0x80;
-    let mut k = 0;
-    while k < 8 {
-        p[z + 1 + k] = number::byte(bits, 7 - k);
-        k += 1;
-    }
-    p
+    let fill = rest.len();
+    let at = fill + 1 + (119 - fill) % 64;
+    put(p, 0, rest);
+    p[fill] = 0x80;
+    number::put(p, at, total << 3);
+    at + 8
 }
 
 // The bytes of the hash value.
@@ -114,22 +112,32 @@ fn bytes(h: [u32; 8]) -> [u8; 32]
     d
 }
 
+// The digest of a message of `total` bytes, from the hash value after its whole blocks and the bytes behind them.
+fn digest_from(words: [u32; 8], rest: &[u8], total: u64) -> [u8; 32]
+    requires { ⌜ length (now rest) ≡ total % 64 ⌝ }
+    ensures { λ r. ⌜ r ≡ digestOf (hashBlocks words (now (rest .entry) ++ padding total)) ⌝ }
+{
+    let mut p = [0u8; 128];
+    let n = pad(&mut p, rest, total);
+    let h = hash_blocks(words, &p[..n]);
+    bytes(h)
+}
+
 // The digest of the message that a state has absorbed.
 pub fn finish(s: Running) -> [u8; 32]
     ensures { λ r. ⌜ r ≡ finishOf s ⌝ }
 {
-    let p = padded(s.total);
-    let n = (119 - (s.total % 64) as usize) % 64 + 9;
-    let e = absorb(s, &p[..n]);
-    let h = e.words;
-    bytes(h)
+    let fill = (s.total % 64) as usize;
+    let block = s.block;
+    let words = s.words;
+    digest_from(words, &block[..fill], s.total)
 }
 
 // The digest of a message in one slice.
 pub fn digest(m: &[u8]) -> [u8; 32]
     ensures { λ r. ⌜ r ≡ sha256 (now (m .entry)) ⌝ }
 {
-    let empty = start();
-    let whole = absorb(empty, m);
-    finish(whole)
+    let words = hash_blocks(H0, m);
+    let at = m.len() / 64 * 64;
+    digest_from(words, &m[at..], m.len() as u64)
 }

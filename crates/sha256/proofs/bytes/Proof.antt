@@ -1,24 +1,25 @@
 -- The loop puts in one byte of the hash value at each turn.
-use borrow.Author.Needs.{needs}
-use lib.ListN.{length, take, length-set}
-use native.Mathlib.Omega.{arith}
 use mathlib.Core.Path.{_≡_, _∙_, refl, sym}
 use Prim.Native.Nat.{_≤_, _-_}
-use lib.ListN.{length, take}
+use native.Mathlib.Nat.{zero-add}
+use native.Mathlib.Omega.{arith}
+use lib.ListN.{length, replicate, length-set}
+use lib.Seq.{paste, paste-zero}
 use Rattle.sha256.specs.Message.{digestOf}
 use Rattle.sha256.proofs.Fill.{fill-step, fill-end}
 use Rattle.sha256.proofs.BigEndian.{length-digest, getD-digest}
+use borrow.Author.Needs.{needs}
 use Rattle.sha256.proofs.bytes.Statement.{statement}
 use Rattle.sha256.proofs.bytes.Tie as tie
 
 abbrev Inv-loop : tie.InvT-loop
-Inv-loop h d₀ i₀ d i = (i ≤ 32) × (length h ≡ 8) × (length d ≡ 32) × (take i d ≡ take i (digestOf h))
+Inv-loop h d₀ i₀ d i = (i ≤ 32) × (length h ≡ 8) × (length d ≡ 32) × (d ≡ paste (replicate 32 0) 0 (digestOf h) i)
 
 abbrev μ-loop : tie.MeasureT-loop
 μ-loop h d₀ i₀ d i = 32 - i
 
 loop-holds : tie.Need-loop-holds Inv-loop μ-loop
-loop-holds c = (omega arith, search needs, refl, refl)
+loop-holds c = (omega arith, search needs, refl, paste-zero (replicate 32 0) 0 (digestOf (c .args .t1)))
 
 mul-byte : tie.Need-mul-byte Inv-loop μ-loop
 mul-byte c = omega arith
@@ -52,8 +53,9 @@ loop-again c =
       omega arith,
       l .inv .1,
       simp length-set (l .inv .2),
-      fill-step (l .d) (digestOf h) (l .i) (c .byte .result) (omega arith) (omega arith) (l .inv .3)
-          (c .byte .ensures ∙ sym (getD-digest h (l .i) (omega arith))),
+      rw (zero-add (l .i))
+          at (fill-step (replicate 32 0) (digestOf h) (l .d) 0 (l .i) (c .byte .result) (omega arith) (omega arith) (l .inv .3)
+          (c .byte .ensures ∙ sym (getD-digest h (l .i) (omega arith)))),
     )
 
 returns : tie.Need-returns Inv-loop μ-loop
@@ -61,7 +63,7 @@ returns c =
     let l = c .before .loop in
     let h = c .before .before .args .t1 in
     let n = length-digest h in
-    fill-end (l .d) (digestOf h) (l .i) (omega arith) (omega arith) (l .inv .3)
+    fill-end (replicate 32 0) (digestOf h) (l .d) (l .i) (omega arith) (omega arith) (l .inv .3)
 
 pub bytes-spec : {M : Type 1} → statement M
 bytes-spec =

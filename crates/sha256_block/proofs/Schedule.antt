@@ -14,7 +14,7 @@ use Rattle.sha256_block.specs.declared.block.Sixteen.{Sixteen}
 use Rattle.sha256_block.specs.Words.{_⊞_, σ₀, σ₁}
 use Rattle.sha256_block.specs.Constants.{K}
 use Rattle.sha256_block.specs.Block.{_!_, wordsOf, next, schedule, variables, roundOf, rounds, sumOf, compressOf}
-use Rattle.sha256_block.specs.Schedule.{W, following, held, added, roundsHeld, compressHeld, OwnWords, EveryRoundAddsItsOwn, listOf, Before, GroupHoldsItsOwn}
+use Rattle.sha256_block.specs.Schedule.{W, following, held, roundsHeld, compressHeld, OwnWords, EveryRoundAddsItsOwn, listOf, Before, GroupHoldsItsOwn}
 use Rattle.sha256_block.proofs.BlockWords.{length-words}
 
 -- ---- the schedule

@@ -1,0 +1,5 @@
+-- What the contracts of the crate say.
+pub mod Rsa
+pub mod Words
+pub mod Montgomery
+pub mod Inner

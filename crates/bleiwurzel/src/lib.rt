@@ -1,10 +1,11 @@
-// The check, the reader of policy files and SHA-256 for programs in C or Rust: include/bleiwurzel.h. A slice is passed as its address and its length, and what is answered
-// besides a number is written to arrays that the caller lends.
+// The check, the reader of policy files, SHA-256 and the verification of RSA signatures for programs in C or Rust: include/bleiwurzel.h. A slice is passed
+// as its address and its length, and what is answered besides a number is written to arrays that the caller lends.
 mod policy_file;
 
 ghost use mathlib.Core.Path.{_≡_};
 ghost use lib.ListN.{length};
 ghost use Rattle.sha256.specs.Message.{sha256};
+ghost use Rattle.rsa.specs.Rsa.{verifies};
 ghost use Rattle.launch.specs.Rules.{inputOf};
 ghost use Rattle.capture.specs.Capture.{captureAnswer, capturePlaces};
 ghost use Rattle.bleiwurzel.specs.Scalars.{platformOf, Given, GivenFor, MeasuredFor};
@@ -144,4 +145,12 @@ pub extern "C" fn bleiwurzel_sha256(message: &[u8], digest: &mut [u8; 32])
     ensures { λ _. ⌜ now (digest .exit) ≡ sha256 (now (message .entry)) ⌝ }
 {
     *digest = sha256::digest(message);
+}
+
+// Whether a signature of a message verifies with a key.
+#[no_mangle]
+pub extern "C" fn bleiwurzel_rsa_verify(key: &[u8], signature: &[u8], message: &[u8]) -> bool
+    ensures { λ r. ⌜ r ≡ verifies (now (key .entry)) (now (signature .entry)) (now (message .entry)) ⌝ }
+{
+    rsa::verify(key, signature, message)
 }

@@ -1,27 +1,23 @@
 -- The elements of a list one after the other: whether all are judged, some names the digest of the pages and some is an STM element, from what was found
 -- so far and the elements that are left; and what that says of the list.
-use Prim.Native.Nat.{ℕ, _+_, _≤_}
+use Prim.Native.Nat.{ℕ}
 use mathlib.Core.Path.{_≡_, refl, ap, sym, _∙_}
-use mathlib.Core.Bool.{Bool, true, false, not, _&&_, _||_, true≢false, or-true, or-false}
+use mathlib.Core.Bool.{Bool, true, false, not, _&&_, _||_, or-true, or-false, and-true, and-false}
 use mathlib.Core.List.{List, []}
 use native.Mathlib.Omega.{arith}
 use borrow.Author.Tests.{lt-ltb, not-true, not-false}
-use lib.ListN.{length, take}
+use lib.ListN.{length}
 use Rattle.policy_answers.specs.declared.ElementAnswer.{ElementAnswer}
-use Rattle.policy_answers.specs.declared.ListAnswer.{ListAnswer}
-use Rattle.policy_answers.specs.declared.ListAnswer.the-variants as lists
-use Rattle.policy_grammar.specs.Grammar.{Element, Signing, PolicyList}
-use Rattle.policy_grammar.specs.Grammar as Grammar
-use Rattle.policy_answers.specs.Answers.{signingShown}
+use Rattle.policy_grammar.specs.Grammar.{Element}
 use Rattle.policy_answers.specs.Seen.{seenElement}
 use Rattle.policy_reader.proofs.Standing as kinds
-use Rattle.policy_reader.proofs.Walk.{Front, element-seen, elements-within, elements-stand}
+use Rattle.policy_reader.proofs.Walk.{Front, element-seen}
 use Rattle.sha256.specs.Message.{sha256}
 use Rattle.rules.specs.Tests.{every, any}
 use Rattle.decision.specs.declared.Judgement.{Judgement}
 use Rattle.decision.specs.declared.Judgement.the-variants.{No, Yes, IfStmNamed}
-use Rattle.decision.specs.Lists.{Criteria, judged, names, isStm, namesStm, stmNamed, elementsPermit, permits}
-use Rattle.decision.specs.Inner.{judgedAnswer, isStmAnswer, testSeen, judgementBy, judgementOf, Counted, ElementsStand, ListStands}
+use Rattle.decision.specs.Lists.{Criteria, judged, names, isStm, namesStm, stmNamed, elementsPermit}
+use Rattle.decision.specs.Inner.{judgedAnswer, isStmAnswer, testSeen, judgementBy, judgementOf, Counted}
 use Rattle.decision.proofs.Naming.{judged-is, stm-is, counted-is}
 
 pub record Judging (k : Criteria) (es : List Element) (found stm : Bool) (rest : List Element) : Type 0 where
@@ -141,54 +137,17 @@ module _ (k : Criteria) (es : List Element) (j : Judgement) (is : j ≡ judgemen
     pub by-digest : (length (k .stm) ≡ 0 → ⊥) → (d : List ℕ) → d ≡ sha256 (k .stm) → (r : Bool) → r ≡ any (namesStm d) es → r ≡ elementsPermit k es
     by-digest h d e r named = rw (← permit-if, lt-ltb 0 (length (k .stm)) (omega arith), ← e) named
 
--- A LIST
+-- ELEMENTS AND SIGNATURE TOGETHER, by what is known of the elements
 
-abbrev isUnsigned : ListAnswer → Bool
-isUnsigned (lists.Unsigned start size version es n) = true
-isUnsigned (lists.Signed start size version es n c k key signature) = false
-isUnsigned lists.Absent = false
+module _ (e v : Bool) where
+  pub elements-refuse : false ≡ e → false ≡ (e && v)
+  elements-refuse h = rw (← h)
 
--- where an unsigned list stands, its elements do
-pub record Unsigned (s : List ℕ) (x : PolicyList) (start n : ℕ) : Type 0 where
-  pub signing : x .signing ≡ Grammar.unsigned
-  pub within : start + n ≤ length s
-  pub elements : ElementsStand (take (start + n) s) start (x .elements)
+  pub signature-refuses : v ≡ false → false ≡ (e && v)
+  signature-refuses h = rw (h, and-false e)
 
-module _ (s : List ℕ) (l : ListAnswer) (x : PolicyList) (h : ListStands s l x) where
-  shown-is : (g : Signing) → x .signing ≡ g → l ≡ signingShown (h .at) (x .version) (x .elementsSize) g
-  shown-is g i = h .shown ∙ ap (signingShown (h .at) (x .version) (x .elementsSize)) i
+  pub signature-decides : true ≡ e → (r : Bool) → r ≡ v → r ≡ (e && v)
+  signature-decides h r is = rw (← h) is
 
-  pub unsigned-list : (start size version es n : ℕ) → l ≡ lists.Unsigned start size version es n → Unsigned s x es n
-  unsigned-list start size version es n q = go (x .signing) refl
-    where
-      go : (g : Signing) → x .signing ≡ g → Unsigned s x es n
-      go Grammar.unsigned i =
-          let e = shown-is Grammar.unsigned i in
-          let e₁ : es ≡ h .at + 8 = cc in
-          let e₂ : n ≡ x .elementsSize = cc in
-          record {
-            signing = i;
-            within = omega (arith, elements-within s (h .at) x (h .others) (h .valid) (h .stand));
-            elements =
-                record {
-                  valid = h .valid .0 .elements-valid;
-                  stand = rw (e₁, e₂) (elements-stand s (h .at) x (h .others) (h .valid) (h .stand));
-                };
-          }
-      go (Grammar.signed g) i =
-          let e = shown-is (Grammar.signed g) i in
-          let z : _≡_ {A = ℕ} 0 1 = cc in absurd (omega arith)
-
-  pub unsigned-permits : (k : Criteria) (start n : ℕ) → Unsigned s x start n → (r : Bool)
-      → r ≡ elementsPermit k (x .elements) → (i : ℕ) → r ≡ permits k i x
-  unfolding permits
-  unsigned-permits k start n u r e i = rw (u .signing) e
-
-  -- a signed list does not permit, and no list stands where the answer is that there is none
-  pub signed-list : (k : Criteria) (i : ℕ) (v : ListAnswer) → l ≡ v → isUnsigned v ≡ false → false ≡ permits k i x
-  unfolding permits
-  signed-list k i v q h = go (x .signing) refl
-    where
-      go : (g : Signing) → x .signing ≡ g → false ≡ permits k i x
-      go Grammar.unsigned s = absurd (true≢false (sym (ap isUnsigned (shown-is Grammar.unsigned s)) ∙ ap isUnsigned q ∙ h))
-      go (Grammar.signed g) s = rw s
+  pub elements-decide : v ≡ true → (r : Bool) → r ≡ e → r ≡ (e && v)
+  elements-decide h r is = rw (h, and-true e) is

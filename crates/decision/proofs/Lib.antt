@@ -9,6 +9,7 @@ mod Hashing
 mod Digests
 mod Naming
 mod Judging
+mod ListAnswers
 mod Lowest
 -- What rules 27 to 29 say.
 pub mod Readings

@@ -9,13 +9,13 @@ use native.Mathlib.Omega.{arith}
 use lib.ListN.{length, getElem?}
 use Rattle.field.specs.Number.{Bytes}
 use Rattle.field.specs.Field.{same}
-use Rattle.policy_grammar.specs.Grammar.{Digests, Body, launchType, customType, stmType, Element, Signing, PolicyList, Reading}
+use Rattle.policy_grammar.specs.Grammar.{Digests, Body, launchType, customType, stmType, Element, Signature, Signing, PolicyList, Reading}
 use Rattle.policy_grammar.specs.Grammar as Grammar
 use Rattle.answer.specs.Answer.{noList}
 use Rattle.sha256.specs.Message.{sha256}
 use Rattle.rules.specs.Tests.{any}
-use Rattle.decision.specs.Lists.{Criteria, listsOf, unsigned, judged, digestsName, names, isStm, namesStm, stmNamed, permits, someFrom, somePermits, lowestFrom, lowestPermitting}
-use Rattle.decision.specs.Meaning.{DigestsName, Names, NamesStm, StmNamed, Permits, PermitsAt, SomePermits, Lowest, Reads, PermitsExactly, LowestExactly, BodyFree}
+use Rattle.decision.specs.Lists.{Criteria, listsOf, signingHolds, judged, digestsName, names, isStm, namesStm, stmNamed, permits, someFrom, somePermits, lowestFrom, lowestPermitting}
+use Rattle.decision.specs.Meaning.{DigestsName, Names, NamesStm, StmNamed, SigningHolds, Permits, PermitsAt, SomePermits, Lowest, Reads, PermitsExactly, LowestExactly, BodyFree}
 use Rattle.rules.proofs.Tests.{eqb-exactly, leb-exactly, ltb-exactly, or-exactly, and-exactly, where-holds, every-exactly, any-exactly}
 use Rattle.decision.proofs.Members.{Reported, Unreported, lowest-is}
 use Rattle.field.proofs.Laws.{same-exactly}
@@ -61,9 +61,15 @@ stm-exactly image es =
     let x = and-exactly (ltb-exactly 0 (length image)) (any-exactly (namesStm (sha256 image)) (NamesStm (sha256 image)) (names-stm-exactly (sha256 image)) es) in
     (λ t. (let w = x .0 t in record { given = w .0; named = w .1 }), λ n. x .1 (n .given, n .named))
 
-unsigned-exactly : (g : Signing) → (unsigned g ≡ true) ↔ (g ≡ Grammar.unsigned)
-unsigned-exactly Grammar.unsigned = (λ e. refl, λ e. refl)
-unsigned-exactly (Grammar.signed g) = (λ e. absurd (true≢false (sym e)), λ e. (let z : _≡_ {A = ℕ} 0 1 = cc in absurd (omega arith)))
+-- a list that is signed so, if it is
+signing-exactly : (k : Criteria) (i : ℕ) (l : PolicyList) (s : Signing) → (signingHolds k i l s ≡ true) ↔ ((g : Signature) → s ≡ Grammar.signed g → SigningHolds k i l g)
+signing-exactly k i l Grammar.unsigned = (λ t g e. (let z : _≡_ {A = ℕ} 0 1 = cc in absurd (omega arith)), λ p. refl)
+signing-exactly k i l (Grammar.signed s) =
+    let x = and-exactly (λ e. e, λ e. e) (leb-exactly (k .counter i) (s .counter)) in
+    let here : (signingHolds k i l (Grammar.signed s) ≡ true) ↔ SigningHolds k i l s =
+    (λ t. (let w = x .0 t in record { verified = w .0; counter = w .1 }), λ p. x .1 (p .verified, p .counter))
+    in
+    (λ t g e. (let q : s ≡ g = cc in rw (← q) (here .0 t)), λ p. here .1 (p s refl))
 
 list-exactly : (k : Criteria) (i : ℕ) (l : PolicyList) → (permits k i l ≡ true) ↔ Permits k i l
 unfolding permits
@@ -74,9 +80,9 @@ list-exactly k i l =
     (λ e. or-exactly (eqb-exactly _ _) (or-exactly (eqb-exactly _ _) (eqb-exactly _ _))) es in
     let holds-stm = any-exactly isStm (λ (e : Element). e .type ≡ stmType) (λ e. eqb-exactly _ _) es in
     let stm = where-holds (any isStm es) (stmNamed (k .stm) es) holds-stm (stm-exactly (k .stm) es) in
-    let x = and-exactly (unsigned-exactly (l .signing)) (and-exactly (and-exactly all (any-exactly (names k) (Names k) (names-exactly k) es)) stm) in (
-      λ t. (let w = x .0 t in record { unsigned = w .0; judged = w .1 .0 .0; names = w .1 .0 .1; namesStm = w .1 .1 }),
-      λ p. x .1 (p .unsigned, ((p .judged, p .names), p .namesStm)),
+    let x = and-exactly (signing-exactly k i l (l .signing)) (and-exactly (and-exactly all (any-exactly (names k) (Names k) (names-exactly k) es)) stm) in (
+      λ t. (let w = x .0 t in record { signed = w .0; judged = w .1 .0 .0; names = w .1 .0 .1; namesStm = w .1 .1 }),
+      λ p. x .1 (p .signed, ((p .judged, p .names), p .namesStm)),
     )
 
 -- THE LISTS OF A READING: at most 8, so none has the number 255

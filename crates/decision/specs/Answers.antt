@@ -2,12 +2,13 @@
 use Prim.Native.Nat.{ℕ}
 use mathlib.Core.List.{List, [], _∷_}
 use Rattle.rules.specs.Rules.{Rule, rule}
+use Rattle.policy_record.specs.Record.{revocationCounter}
 use Rattle.decision.specs.declared.LaunchCriteria.{LaunchCriteria}
 use Rattle.decision.specs.Lists.{Criteria, ofGrammar, hashMatches}
 
--- what a list is judged by: what it is judged by of the launch, and the STM image
-abbrev pub criteriaOf : LaunchCriteria → List ℕ → Criteria
-criteriaOf k stm = record { digest = k .digest; acmVersion = k .«acm_version»; stm = stm }
+-- what a list is judged by: what it is judged by of the launch, the STM image, and the policy record's counters
+abbrev pub criteriaOf : LaunchCriteria → List ℕ → List ℕ → Criteria
+criteriaOf k stm r = record { digest = k .digest; acmVersion = k .«acm_version»; stm = stm; counter = revocationCounter r }
 
 -- rules 27 and 28
 abbrev pub fileRules : List ℕ → List ℕ → List Rule

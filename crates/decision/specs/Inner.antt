@@ -1,12 +1,15 @@
 -- What the contracts of functions cite that are not public: an answer of the policy reader, and what it is the answer for.
-use Prim.Native.Nat.{ℕ, _<_, _^_}
+use Prim.Native.Nat.{ℕ, _-_, _<_, _^_}
 use mathlib.Core.Path.{_≡_}
 use mathlib.Core.Bool.{Bool, true, false, cond, _&&_}
 use mathlib.Core.List.{List, [], _∷_, flatMap}
 use mathlib.Core.Option.{Option, some, none}
-use lib.ListN.{drop}
+use lib.Dec.{leb}
+use lib.ListN.{length, take, drop}
 use Rattle.sha256.specs.Message.{sha256}
+use Rattle.rsa.specs.Rsa.{verifies}
 use Rattle.policy_answers.specs.declared.ListAnswer.{ListAnswer}
+use Rattle.policy_answers.specs.declared.ListAnswer.the-variants as lists
 use Rattle.policy_answers.specs.declared.ElementAnswer.{ElementAnswer}
 use Rattle.policy_answers.specs.declared.ElementAnswer.the-variants as elements
 use Rattle.policy_grammar.specs.Grammar.{All, Element, elementBytes, ValidElement, Signing, PolicyList, listBytes, ValidList}
@@ -27,6 +30,20 @@ measuredIn p (Grammar.signed g) = g .key
 abbrev pub measuredSeen : Option ListPart → List ℕ
 measuredSeen none = []
 measuredSeen (some p) = measuredIn p (p .signing)
+
+-- a list that is answered has, if it is signed, a counter that is at least a number; and a list that is seen has then a signature that verifies
+abbrev pub reachedSeen : ℕ → ListAnswer → Bool
+reachedSeen least (lists.Unsigned start size version es n) = true
+reachedSeen least (lists.Signed start size version es n c k key signature) = leb least c
+reachedSeen least lists.Absent = false
+
+abbrev pub verifiedIn : ListPart → Signing → Bool
+verifiedIn p Grammar.unsigned = true
+verifiedIn p (Grammar.signed g) = verifies (g .key) (g .signature) (take (length (p .whole) - length (g .signature)) (p .whole))
+
+abbrev pub verifiedSeen : Option ListPart → Bool
+verifiedSeen none = false
+verifiedSeen (some p) = verifiedIn p (p .signing)
 
 -- an element is of a type that is judged
 abbrev pub judgedAnswer : ElementAnswer → Bool

@@ -11,7 +11,8 @@ use Rattle.rules.specs.Tests.{every, any}
 use Rattle.rules.specs.Rules.{all}
 use Rattle.answer.specs.Answer.{noList}
 use Rattle.sha256.specs.Message.{sha256}
-use Rattle.policy_grammar.specs.Grammar.{Digests, Body, Launch, launchType, customType, stmType, Element, Signing, PolicyList, listBytes}
+use Rattle.rsa.specs.Rsa.{verifies}
+use Rattle.policy_grammar.specs.Grammar.{Digests, Body, Launch, launchType, customType, stmType, Element, Signature, Signing, PolicyList, listBytes}
 use Rattle.policy_grammar.specs.Grammar as Grammar
 use Rattle.policy_answers.specs.Answers.{listsIn}
 use Rattle.policy_grammar.specs.Decode.{accepted}
@@ -57,22 +58,20 @@ hashOf ls = sha256 (flatMap measure ls)
 unfoldable pub hashMatches : List ℕ → List ℕ → Bool
 hashMatches file r = same (hashOf (listsOf file)) (policyHash r)
 
--- 29. What a list is judged by: the digest of the pages, AcmVersion of the module, and the STM image, "empty if there is none"
+-- 29. What a list is judged by: the digest of the pages, AcmVersion of the module, the STM image, "empty if there is none", and "the record's counter"
+-- for each list index
 pub record Criteria : Type 0 where
   pub digest : List ℕ
   pub acmVersion : ℕ
   pub stm : List ℕ
+  pub counter : ℕ → ℕ
 
 -- digests with HashAlg 0x000B name a digest
 abbrev pub digestsName : List ℕ → Digests → Bool
 digestsName digest d = eqb (d .hashAlg) sha256Alg && any (same digest) (d .digests)
 
 -- "A list permits if it is unsigned, holds only types 0x10 and 3, and some 0x10 element with HashAlg 0x000B names the digest and has
--- SINITMinVersion at most AcmVersion. Signed lists are read and measured but do not permit yet." "Add 0x14 .. to the permitted types"
-abbrev pub unsigned : Signing → Bool
-unsigned Grammar.unsigned = true
-unsigned (Grammar.signed g) = false
-
+-- SINITMinVersion at most AcmVersion." "Add 0x14 .. to the permitted types"
 abbrev pub judged : Element → Bool
 judged e = eqb (e .type) launchType || (eqb (e .type) customType || eqb (e .type) stmType)
 
@@ -106,9 +105,18 @@ stmNamed image es = ltb 0 (length image) && any (namesStm (sha256 image)) es
 abbrev pub elementsPermit : Criteria → List Element → Bool
 elementsPermit k es = every judged es && any (names k) es && (not (any isStm es) || stmNamed (k .stm) es)
 
+-- "the list's bytes up to, but without, the signature"
+unfoldable pub signedBytes : PolicyList → Signature → List ℕ
+signedBytes l g = take (length (listBytes l) - length (g .signature)) (listBytes l)
+
+-- "A signed list permits like an unsigned one if its signature verifies and its counter is at least the record's counter at the same list index."
+abbrev pub signingHolds : Criteria → ℕ → PolicyList → Signing → Bool
+signingHolds k i l Grammar.unsigned = true
+signingHolds k i l (Grammar.signed g) = verifies (g .key) (g .signature) (signedBytes l g) && leb (k .counter i) (g .counter)
+
 -- of the list number i
 unfoldable pub permits : Criteria → ℕ → PolicyList → Bool
-permits k i l = unsigned (l .signing) && elementsPermit k (l .elements)
+permits k i l = signingHolds k i l (l .signing) && elementsPermit k (l .elements)
 
 -- "no list permits": a test holds of some list, counted from i
 unfoldable pub someFrom : ℕ → (ℕ → PolicyList → Bool) → List PolicyList → Bool

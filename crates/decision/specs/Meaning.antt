@@ -11,13 +11,14 @@ use Rattle.field.specs.Number.{Bytes}
 use Rattle.rules.specs.Rules.{all, firstFailing, Every, Some}
 use Rattle.rules.specs.Meaning.{Meaning, meaning, FirstBroken}
 use Rattle.sha256.specs.Message.{sha256}
-use Rattle.policy_grammar.specs.Grammar.{Digests, Launch, launchType, customType, stmType, Element, PolicyList, Reading, Makes}
+use Rattle.rsa.specs.Rsa.{verifies}
+use Rattle.policy_grammar.specs.Grammar.{Digests, Launch, launchType, customType, stmType, Element, Signature, PolicyList, Reading, Makes}
 use Rattle.policy_grammar.specs.Grammar as Grammar
 use Rattle.policy_grammar.specs.Sizes.{leastFile, largestFile}
 use Rattle.policy_record.specs.Record.{sha256Alg, policyHash}
 use Rattle.decision.specs.Answers.{fileRules}
 use Rattle.answer.specs.Answer.{noList}
-use Rattle.decision.specs.Lists.{Criteria, filePlaced, ofGrammar, listsOf, measure, hashMatches, judged, names, isStm, namesStm, somePermits, lowestPermitting}
+use Rattle.decision.specs.Lists.{Criteria, filePlaced, ofGrammar, listsOf, measure, hashMatches, judged, names, isStm, namesStm, signedBytes, somePermits, lowestPermitting}
 
 -- 26
 pub record Placed (w : List ℕ) (window base size : ℕ) : Type 0 where
@@ -65,9 +66,15 @@ pub record StmNamed (image : List ℕ) (es : List Element) : Type 0 where
   pub given : 0 < length image
   pub named : Some (NamesStm (sha256 image)) es
 
+-- the list number i, signed so: its signature verifies, and its counter is at least the record's
+pub record SigningHolds (k : Criteria) (i : ℕ) (l : PolicyList) (g : Signature) : Type 0 where
+  pub verified : verifies (g .key) (g .signature) (signedBytes l g) ≡ true
+  pub counter : k .counter i ≤ g .counter
+
 -- the list number i permits
 pub record Permits (k : Criteria) (i : ℕ) (l : PolicyList) : Type 0 where
-  pub unsigned : l .signing ≡ Grammar.unsigned
+  -- where it is signed
+  pub signed : (g : Signature) → l .signing ≡ Grammar.signed g → SigningHolds k i l g
   pub judged : Every (λ (e : Element). (e .type ≡ launchType) ⊎ ((e .type ≡ customType) ⊎ (e .type ≡ stmType))) (l .elements)
   -- one and the same element of type 0x10
   pub names : Some (Names k) (l .elements)

@@ -51,7 +51,7 @@ fn digests_name(b: &[u8], start: usize, hash_alg: usize, count: usize, digest: &
 // Whether an element of t names the digest of the pages. Its body is passed on as the part of t that it is.
 fn names(t: &[u8], e: ElementAnswer, k: LaunchCriteria) -> bool
     requires { ⌜ Counted e ⌝ }
-    ensures { λ r. ⌜ ((stm : List ℕ) → r ≡ testSeen (spec.names (criteriaOf k stm)) (seenElement (now (t .entry)) e)) ⌝ }
+    ensures { λ r. ⌜ ((stm policyRecord : List ℕ) → r ≡ testSeen (spec.names (criteriaOf k stm policyRecord)) (seenElement (now (t .entry)) e)) ⌝ }
 {
     match e {
         ElementAnswer::Launch {
@@ -138,7 +138,7 @@ fn judgement(named: bool, holds_stm: bool) -> Judgement
 // element.
 pub(crate) fn elements_judged(t: &[u8], start: usize, k: LaunchCriteria) -> Judgement
     requires { ⌜ ((es : List Element) × ElementsStand (now t) start es) ⌝ }
-    ensures { λ r. ⌜ ((es : List Element) (stm : List ℕ) → ElementsStand (now (t .entry)) start es → r ≡ judgementOf (criteriaOf k stm) es) ⌝ }
+    ensures { λ r. ⌜ ((es : List Element) (stm policyRecord : List ℕ) → ElementsStand (now (t .entry)) start es → r ≡ judgementOf (criteriaOf k stm policyRecord) es) ⌝ }
 {
     let mut at = start;
     let mut named = false;

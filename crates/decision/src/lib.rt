@@ -3,13 +3,15 @@ mod elements;
 mod measures;
 mod permits;
 mod place;
+mod signing;
 
 pub use measures::file_fault;
 pub use permits::lowest_permitting;
 pub use place::file;
 pub use place::file_placed;
 
-// What a list is judged by of the launch: the digest of the pages, and AcmVersion of the module. The STM image, which is lent, goes beside it.
+// What a list is judged by of the launch: the digest of the pages, and AcmVersion of the module. The STM image and the policy record, which are lent, go
+// beside it.
 pub struct LaunchCriteria {
     pub digest: [u8; 32],
     pub acm_version: u64,

@@ -13,7 +13,7 @@ use Rattle.rules.proofs.Tests.{_&_, fails}
 use Rattle.rules.proofs.Answers.{permits, rule-refuses, rule-passes, group-refuses, group-passes}
 use Rattle.mle.specs.Image.{imageDigest}
 use Rattle.policy_record.specs.declared.RecordAnswer.the-variants as records
-use Rattle.policy_record.specs.Record.{policyType, LIST, recordRules}
+use Rattle.policy_record.specs.Record.{policyType, LIST, revocationCounter, recordRules}
 use Rattle.decision.specs.Lists.{filePlaced, somePermits, lowestPermitting}
 use Rattle.answer.specs.Answer.{noList}
 use Rattle.policy_record.specs.Answers.{recordOf}
@@ -35,31 +35,31 @@ module _ (w : List ℕ) (f : Found) (a : Outcome) (least most : ℕ) (rs later :
       nothing ∙ group-refuses (refusal w f) a rs later n z e
 
 -- 29
-module _ (w file stm : List ℕ) (f : Found) where
+module _ (w file r stm : List ℕ) (f : Found) where
   abbrev last : List Rule
-  last = rule 29 (somePermits file (criteria w stm f)) ∷ []
+  last = rule 29 (somePermits file (criteria w r stm f)) ∷ []
 
   abbrev lowest : ℕ
-  lowest = lowestPermitting file (criteria w stm f)
+  lowest = lowestPermitting file (criteria w r stm f)
 
   -- by the digest and the list that were worked out
   module _ (d : List ℕ) (l : ℕ) (is-digest : d ≡ imageDigest w (f .image))
-      (is-list : l ≡ lowestPermitting file (record { digest = d; acmVersion = f .«acm_version»; stm = stm })) (b : Bytes file) where
+      (is-list : l ≡ lowestPermitting file (record { digest = d; acmVersion = f .«acm_version»; stm = stm; counter = revocationCounter r })) (b : Bytes file) where
     listed : l ≡ lowest
     listed = rw is-digest at is-list
 
-    pub no-list : l ≡ noList → refusalShowing d 29 ≡ fileStage w file stm f
+    pub no-list : l ≡ noList → refusalShowing d 29 ≡ fileStage w file r stm f
     unfolding fileStage
     no-list e =
         rw is-digest
         (rule-refuses (refusal w f) (permission w f lowest) 29 _ [] (lit< tt)
-        (sym (fails (reported-exactly file (criteria w stm f) b) (λ h. h (sym listed ∙ e)))))
+        (sym (fails (reported-exactly file (criteria w r stm f) b) (λ h. h (sym listed ∙ e)))))
 
-    pub a-list : (l ≡ noList → ⊥) → permissionWith f l d ≡ fileStage w file stm f
+    pub a-list : (l ≡ noList → ⊥) → permissionWith f l d ≡ fileStage w file r stm f
     unfolding fileStage
     a-list h =
         rw (is-digest, listed)
-        (permits (refusal w f) (permission w f lowest) last (rw (reported-exactly file (criteria w stm f) b .1 (λ e. h (listed ∙ e)))))
+        (permits (refusal w f) (permission w f lowest) last (rw (reported-exactly file (criteria w r stm f) b .1 (λ e. h (listed ∙ e)))))
 
 module _ (w r stm : List ℕ) (f : Found) where
   -- 26 to 28
@@ -67,11 +67,11 @@ module _ (w r stm : List ℕ) (f : Found) where
   file = policyFile w f
 
   abbrev permitting : Outcome
-  permitting = permission w f (lowest w file stm f)
+  permitting = permission w f (lowest w file r stm f)
 
   pub not-placed : all (filePlaced w (f .«window_base») (f .«policy_file» .base) (f .«policy_file» .size)) ≡ false → earlyRefusal 26 ≡ listStage w r stm f
   unfolding listStage
-  not-placed e = rule-refuses (refusal w f) permitting 26 _ (fileRules file r ++ last w file stm f) (lit< tt) e
+  not-placed e = rule-refuses (refusal w f) permitting 26 _ (fileRules file r ++ last w file r stm f) (lit< tt) e
 
   -- by the file that was found and the number of its first rule that fails
   module _ (placed : all (filePlaced w (f .«window_base») (f .«policy_file» .base) (f .«policy_file» .size)) ≡ true) (s : List ℕ) (n : ℕ)
@@ -82,15 +82,15 @@ module _ (w r stm : List ℕ) (f : Found) where
     pub file-refuses : (n ≡ 0 → ⊥) → earlyRefusal n ≡ listStage w r stm f
     unfolding listStage
     file-refuses h =
-        early-refuses w f permitting 27 28 (fileRules file r) (last w file stm f) (file-group file r .numbers) (lit< tt) n (omega arith) fault
-        ∙ rule-passes (refusal w f) permitting 26 _ (fileRules file r ++ last w file stm f) placed
+        early-refuses w f permitting 27 28 (fileRules file r) (last w file r stm f) (file-group file r .numbers) (lit< tt) n (omega arith) fault
+        ∙ rule-passes (refusal w f) permitting 26 _ (fileRules file r ++ last w file r stm f) placed
 
-    pub file-passes : n ≡ 0 → fileStage w s stm f ≡ listStage w r stm f
+    pub file-passes : n ≡ 0 → fileStage w s r stm f ≡ listStage w r stm f
     unfolding listStage fileStage
     file-passes z =
         rw is-file
-        (group-passes (refusal w f) permitting (fileRules file r) (last w file stm f) (lit< tt & lit< tt & tt) (fault ∙ z)
-        ∙ rule-passes (refusal w f) permitting 26 _ (fileRules file r ++ last w file stm f) placed)
+        (group-passes (refusal w f) permitting (fileRules file r) (last w file r stm f) (lit< tt & lit< tt & tt) (fault ∙ z)
+        ∙ rule-passes (refusal w f) permitting 26 _ (fileRules file r ++ last w file r stm f) placed)
 
   -- 23 to 25
   abbrev rules : List Rule

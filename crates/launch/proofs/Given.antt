@@ -116,7 +116,7 @@ module _ (i : Input) (places : List ℕ) (b : Bytes (i .window)) (told : length 
   lowest q =
       let (reading, (makes, permits)) = says .lists q .1 .1 .1 .0 in
       let read = reads i b reading makes in
-      let k = criteria w (i .stm) (found i) in
+      let k = criteria w (i .policyRecord) (i .stm) (found i) in
       let reported = lowestPermitting (policyFile w (found i)) k in
       let laws = lowest-exactly (policyFile w (found i)) k reading read in
       let most = lowest-most (policyFile w (found i)) k reading read in

@@ -109,7 +109,7 @@ module _ (i : Input) where
 
     pub list-turn : InTurn (listRules w r (i .stm) (found i)) (listMeanings i)
     list-turn =
-        let k = criteria w (i .stm) (found i) in
+        let k = criteria w (i .policyRecord) (i .stm) (found i) in
         let last = rule 29 (somePermits (file i) k) ∷ [] in
         let last-says = meaning 29 (SomeReading (file i) (λ (reading : Reading). SomePermits reading k)) ∷ [] in (
           agrees (lit< tt) (placed-exactly _ _ _ _),

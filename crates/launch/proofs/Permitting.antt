@@ -141,7 +141,7 @@ module _ (i : Input) where
           reading = reading;
           grammar = makes;
           hash = hash;
-          permits = subst (λ (x : Reading). decision.SomePermits x (criteria w (i .stm) (found i))) (unique other reading (file i) made makes) permits;
+          permits = subst (λ (x : Reading). decision.SomePermits x (criteria w (i .policyRecord) (i .stm) (found i))) (unique other reading (file i) made makes) permits;
         },
     λ l.
         l .placed & (l .reading, l .grammar) & (l .reading, (l .grammar, l .hash)) & (l .reading, (l .grammar, l .permits)) & tt,

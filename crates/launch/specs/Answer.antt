@@ -16,7 +16,7 @@ use Rattle.launch.specs.Rules.{Input, policyFile, criteria, image, found
 -- "Under ANY the list is 255." Under LIST it is the lowest that permits
 abbrev pub listFor : List ℕ → List ℕ → List ℕ → Found → ℕ
 listFor window policyRecord stm f =
-    cond (eqb (policyType policyRecord) LIST) (lowestPermitting (policyFile window f) (criteria window stm f)) noList
+    cond (eqb (policyType policyRecord) LIST) (lowestPermitting (policyFile window f) (criteria window policyRecord stm f)) noList
 
 abbrev pub permitted : Input → Answer
 permitted i =

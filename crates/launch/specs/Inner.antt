@@ -58,13 +58,13 @@ abbrev pub outcomeBy : List ℕ → Found → ℕ → List Rule → Outcome
 outcomeBy window f list rs = answerBy (refusal window f) (permission window f list) rs
 
 -- by rule 29 for a file, 26 to 29, 23 to 29
-unfoldable pub fileStage : List ℕ → List ℕ → List ℕ → Found → Outcome
-fileStage window file stm f =
-    outcomeBy window f (lowestPermitting file (criteria window stm f)) (rule 29 (somePermits file (criteria window stm f)) ∷ [])
+unfoldable pub fileStage : List ℕ → List ℕ → List ℕ → List ℕ → Found → Outcome
+fileStage window file policyRecord stm f =
+    outcomeBy window f (lowestPermitting file (criteria window policyRecord stm f)) (rule 29 (somePermits file (criteria window policyRecord stm f)) ∷ [])
 
 unfoldable pub listStage : List ℕ → List ℕ → List ℕ → Found → Outcome
 listStage window policyRecord stm f =
-    outcomeBy window f (lowestPermitting (policyFile window f) (criteria window stm f)) (listRules window policyRecord stm f)
+    outcomeBy window f (lowestPermitting (policyFile window f) (criteria window policyRecord stm f)) (listRules window policyRecord stm f)
 
 unfoldable pub decideStage : List ℕ → List ℕ → List ℕ → Found → Outcome
 decideStage window policyRecord stm f = outcomeBy window f (listFor window policyRecord stm f) (decideRules window policyRecord stm f)

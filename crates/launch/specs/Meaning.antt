@@ -52,7 +52,7 @@ module _ (i : Input) where
       meaning 26 (Placed (i .window) (i .platform .«window_base») (os i .«policy_file_base») (os i .«policy_file_size»))
       -- 27 and 28
       ∷ (fileMeanings file (i .policyRecord)
-      ++ (meaning 29 (SomeReading file (λ (reading : Reading). SomePermits reading (criteria (i .window) (i .stm) (found i)))) ∷ []))
+      ++ (meaning 29 (SomeReading file (λ (reading : Reading). SomePermits reading (criteria (i .window) (i .policyRecord) (i .stm) (found i)))) ∷ []))
 
   -- 23 to 29, of what the policy decides
   abbrev pub decideMeanings : List Meaning

@@ -37,7 +37,7 @@ pub record ListPermits (window policyRecord stm : List ℕ) (f : Found) : Type 0
   pub reading : Reading
   pub grammar : Makes reading (policyFile window f)
   pub hash : decision.HashMatches reading policyRecord
-  pub permits : decision.SomePermits reading (criteria window stm f)
+  pub permits : decision.SomePermits reading (criteria window policyRecord stm f)
 
 module _ (i : Input) where
   -- "N is MLE Size divided by 4096"

@@ -19,7 +19,7 @@ use Rattle.pages.specs.Rules.{walkRules, endState}
 use Rattle.mle.specs.declared.Image.{Image}
 use Rattle.mle.specs.Image.{imageDigest}
 use Rattle.mle.specs.Header.{pagesOf, sizeTests, headerTests}
-use Rattle.policy_record.specs.Record.{policyType, LIST, recordRules}
+use Rattle.policy_record.specs.Record.{policyType, LIST, revocationCounter, recordRules}
 use Rattle.decision.specs.Lists.{Criteria, filePlaced, fileOf, somePermits}
 use Rattle.decision.specs.Answers.{fileRules}
 use Rattle.launch.specs.declared.Platform.{Platform}
@@ -154,15 +154,16 @@ module _ (i : Input) where
 abbrev pub policyFile : List ℕ → Found → List ℕ
 policyFile window f = fileOf window (f .«window_base») (f .«policy_file» .base) (f .«policy_file» .size)
 
-abbrev pub criteria : List ℕ → List ℕ → Found → Criteria
-criteria window stm f = record { digest = imageDigest window (f .image); acmVersion = f .«acm_version»; stm = stm }
+abbrev pub criteria : List ℕ → List ℕ → List ℕ → Found → Criteria
+criteria window policyRecord stm f =
+    record { digest = imageDigest window (f .image); acmVersion = f .«acm_version»; stm = stm; counter = revocationCounter policyRecord }
 
 -- 26 to 29
 abbrev pub listRules : List ℕ → List ℕ → List ℕ → Found → List Rule
 listRules window policyRecord stm f =
     rule 26 (all (filePlaced window (f .«window_base») (f .«policy_file» .base) (f .«policy_file» .size)))
     -- 27 and 28
-    ∷ (fileRules (policyFile window f) policyRecord ++ (rule 29 (somePermits (policyFile window f) (criteria window stm f)) ∷ []))
+    ∷ (fileRules (policyFile window f) policyRecord ++ (rule 29 (somePermits (policyFile window f) (criteria window policyRecord stm f)) ∷ []))
 
 abbrev pub decideRules : List ℕ → List ℕ → List ℕ → Found → List Rule
 decideRules window policyRecord stm f =

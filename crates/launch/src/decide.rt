@@ -54,8 +54,8 @@ fn permission(f: Found, list: u32, digest: [u8; 32]) -> Outcome
 }
 
 // Rule 29, by the policy file.
-fn by_file(window: &[u8], file: &[u8], stm: &[u8], f: Found) -> Outcome
-    ensures { λ r. ⌜ r ≡ spec.fileStage (now (window .entry)) (now (file .entry)) (now (stm .entry)) f ⌝ }
+fn by_file(window: &[u8], file: &[u8], record: &[u8], stm: &[u8], f: Found) -> Outcome
+    ensures { λ r. ⌜ r ≡ spec.fileStage (now (window .entry)) (now (file .entry)) (now («record» .entry)) (now (stm .entry)) f ⌝ }
 {
     let image = f.image;
     let digest = mle::digest(window, image);
@@ -63,7 +63,7 @@ fn by_file(window: &[u8], file: &[u8], stm: &[u8], f: Found) -> Outcome
         digest: digest,
         acm_version: f.acm_version,
     };
-    let list = decision::lowest_permitting(file, stm, criteria);
+    let list = decision::lowest_permitting(file, record, stm, criteria);
     if list == NO_LIST {
         return refusal_showing(29, digest);
     }
@@ -83,7 +83,7 @@ fn by_lists(window: &[u8], record: &[u8], stm: &[u8], f: Found) -> Outcome
     if fault != 0 {
         return refusal(fault);
     }
-    by_file(window, file, stm, f)
+    by_file(window, file, record, stm, f)
 }
 
 // Under ANY every image is permitted.

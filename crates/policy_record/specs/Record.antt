@@ -1,5 +1,5 @@
 -- The policy record: its fields, and rules 23 to 25.
-use Prim.Native.Nat.{ℕ, _/_, _%_, _^_}
+use Prim.Native.Nat.{ℕ, _+_, _*_, _/_, _%_, _^_}
 use mathlib.Core.Bool.{Bool, not, _||_}
 use mathlib.Core.List.{List, [], _∷_}
 use lib.Dec.{leb, eqb}
@@ -36,6 +36,10 @@ ANY = 1
 
 abbrev pub sinitMinVersion : List ℕ → ℕ
 sinitMinVersion r = numberAt r 5 1
+
+-- that of the list number i
+abbrev pub revocationCounter : List ℕ → ℕ → ℕ
+revocationCounter r i = numberAt r (6 + 2 * i) 2
 
 abbrev pub control : List ℕ → ℕ
 control r = numberAt r 22 4

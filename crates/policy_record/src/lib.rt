@@ -1,8 +1,8 @@
-// The policy record: rules 23 to 25, and the kind of policy.
+// The policy record: rules 23 to 25, the kind of policy, and the revocation counters.
 use field::number_or_zero;
 ghost use mathlib.Core.Path.{_≡_};
 ghost use Rattle.rules.specs.Rules.{all, firstFailing};
-ghost use Rattle.policy_record.specs.Record.{policyType, recordTests, worthyOrAllowed, versionReached, recordRules};
+ghost use Rattle.policy_record.specs.Record.{policyType, revocationCounter, recordTests, worthyOrAllowed, versionReached, recordRules};
 ghost use Rattle.policy_record.specs.Answers.{recordOf};
 
 // The kind of policy of a record for which rules 23 to 25 hold, or the number of the rule that refuses it.
@@ -16,6 +16,9 @@ pub enum RecordAnswer {
 pub const SHA256_ALG: u64 = 0x000B;
 
 const RECORD_SIZE: usize = 70;
+
+// The offset of the first of the counters.
+const REVOCATION_COUNTERS: usize = 6;
 
 const KNOWN_VERSION: u64 = 3;
 
@@ -87,4 +90,11 @@ pub fn kind(record: &[u8], flags: u64, acm_version: u64) -> RecordAnswer
         return RecordAnswer::List;
     }
     RecordAnswer::Any
+}
+
+// The revocation counter of the list number i.
+pub fn revocation_counter(record: &[u8], i: u32) -> u64
+    ensures { λ c. ⌜ c ≡ revocationCounter (now («record» .entry)) i ⌝ }
+{
+    number_or_zero(record, REVOCATION_COUNTERS + 2 * i as usize, 2)
 }

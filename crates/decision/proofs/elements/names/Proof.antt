@@ -12,9 +12,9 @@ enum-known-e : tie.Need-enum-known-e
 enum-known-e c = search needs
 
 returns : tie.Need-returns
-returns c = λ stm.
+returns c = λ stm r.
     let a = c .before .before .before .before .before .before .args in
-    later-version (criteriaOf (a .k) stm) (a .t .now) _ _ _ _ _ _ _ _ (c .before .before .before .e .given .1) (c .if1 .taken)
+    later-version (criteriaOf (a .k) stm r) (a .t .now) _ _ _ _ _ _ _ _ (c .before .before .before .e .given .1) (c .if1 .taken)
 
 body-requires : tie.Need-body-requires
 body-requires c κs = search needs
@@ -38,27 +38,27 @@ enum-told-4 : tie.Need-enum-told-4
 enum-told-4 c = search needs
 
 returns-2 : tie.Need-returns-2
-returns-2 c = λ stm.
+returns-2 c = λ stm r.
     let at-test = c .before .before .before .before in
     let at-known = at-test .before .before .before in
     let a = at-known .before .before .before .args in
-    launch-names (criteriaOf (a .k) stm) (a .t .now) _ _ _ _ _ _ _ _ (at-known .e .given .1)
+    launch-names (criteriaOf (a .k) stm r) (a .t .now) _ _ _ _ _ _ _ _ (at-known .e .given .1)
     (at-test .if1 .left) _ _ (c .before .before .body .ensures) (c .digests-name .ensures)
 
 returns-3 : tie.Need-returns-3
 unfolding names
-returns-3 c = λ stm. other-case (names (criteriaOf _ stm)) _ (c .enum-told .given .1) refl
+returns-3 c = λ stm r. other-case (names (criteriaOf _ stm r)) _ (c .enum-told .given .1) refl
 
 returns-4 : tie.Need-returns-4
 unfolding names
-returns-4 c = λ stm. other-case (names (criteriaOf _ stm)) _ (c .enum-told2 .given .1) refl
+returns-4 c = λ stm r. other-case (names (criteriaOf _ stm r)) _ (c .enum-told2 .given .1) refl
 
 returns-5 : tie.Need-returns-5
 unfolding names
-returns-5 c = λ stm. other-case (names (criteriaOf _ stm)) _ (c .enum-told3 .given .1) refl
+returns-5 c = λ stm r. other-case (names (criteriaOf _ stm r)) _ (c .enum-told3 .given .1) refl
 
 returns-6 : tie.Need-returns-6
-returns-6 c = λ stm. other-case (names (criteriaOf _ stm)) _ (c .enum-told4 .given .1) refl
+returns-6 c = λ stm r. other-case (names (criteriaOf _ stm r)) _ (c .enum-told4 .given .1) refl
 
 pub names-spec : {M : Type 1} → statement M
 names-spec =

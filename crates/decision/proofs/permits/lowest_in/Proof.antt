@@ -17,15 +17,15 @@ use Rattle.decision.proofs.permits.lowest_in.Statement.{statement}
 use Rattle.decision.proofs.permits.lowest_in.Tie as tie
 
 abbrev Inv-loop : tie.InvT-loop
-Inv-loop file stm k at₀ i₀ known₀ at i known =
-    (i ≤ at) × Left kinds.list file at (Lowest (criteriaOf k stm) (listsOf file) i) × Known stm known
+Inv-loop file r stm k at₀ i₀ known₀ at i known =
+    (i ≤ at) × Left kinds.list file at (Lowest (criteriaOf k stm r) (listsOf file) i) × Known stm known
 
 abbrev μ-loop : tie.MeasureT-loop
-μ-loop file stm k at₀ i₀ known₀ at i known = length file - at
+μ-loop file r stm k at₀ i₀ known₀ at i known = length file - at
 
 loop-holds : tie.Need-loop-holds Inv-loop μ-loop
 loop-holds c =
-    let w = starts _ (c .before .shared-slice-known .given) (c .before .before .pre) in
+    let w = starts _ (c .before .before .shared-slice-known .given) (c .before .before .before .pre) in
     (search needs, record { rest = listsOf _; valid = w .valid; stand = w .stand; kept = lowest-start _ _ }, λ e. absurd (true≢false (sym e)))
 
 list-at-requires : tie.Need-list-at-requires Inv-loop μ-loop
@@ -54,7 +54,7 @@ add-at c =
     omega (arith, t .within, c .list-size .ensures)
 
 add-i : tie.Need-add-i Inv-loop μ-loop
-add-i c = omega (arith, short _ (c .before .before .before .before .before .before .before .before .before .pre))
+add-i c = omega (arith, short _ (c .before .before .before .before .before .before .before .before .before .before .pre))
 
 loop-less : tie.Need-loop-less Inv-loop μ-loop
 loop-less c =

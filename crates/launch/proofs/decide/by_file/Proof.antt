@@ -18,7 +18,7 @@ returns : tie.Need-returns
 returns c =
     let at-list = c .before .before in
     c .refusal-showing .ensures
-    ∙ no-list _ _ _ _ _ _ (at-list .before .digest .ensures) (at-list .lowest-permitting .ensures) (λ i. at-list .before .before .before .before .shared-slice-known2 .given i .fits) (c .before .if1 .taken)
+    ∙ no-list _ _ _ _ _ _ _ (at-list .before .digest .ensures) (at-list .lowest-permitting .ensures) (λ i. at-list .before .before .before .before .before .shared-slice-known2 .given i .fits) (c .before .if1 .taken)
 
 permission-requires : tie.Need-permission-requires
 permission-requires c κs = search needs
@@ -27,7 +27,7 @@ returns-2 : tie.Need-returns-2
 returns-2 c =
     let at-list = c .before .before in
     c .permission .ensures
-    ∙ a-list _ _ _ _ _ _ (at-list .before .digest .ensures) (at-list .lowest-permitting .ensures) (λ i. at-list .before .before .before .before .shared-slice-known2 .given i .fits) (c .before .if1 .left)
+    ∙ a-list _ _ _ _ _ _ _ (at-list .before .digest .ensures) (at-list .lowest-permitting .ensures) (λ i. at-list .before .before .before .before .before .shared-slice-known2 .given i .fits) (c .before .if1 .left)
 
 pub by-file-spec : {M : Type 1} → statement M
 by-file-spec =

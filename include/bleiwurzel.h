@@ -14,6 +14,7 @@
 #ifndef BLEIWURZEL_H
 #define BLEIWURZEL_H
 
+#include <stdbool.h>
 #include <stddef.h>
 #include <stdint.h>
 
@@ -135,8 +136,9 @@ struct bleiwurzel_answer {
  * Whether the next launch will succeed.
  *
  * Lent for reading: window, heap, sinit (the SINIT module), record (the policy record of 70 bytes) and stm (the STM image), each with its
- * length in bytes. The policy file of a LIST policy is read from the window, where OsSinitData says it is. The nine numbers after them are the
- * platform's, in the order of struct bleiwurzel_platform.
+ * length in bytes. The policy file of a LIST policy is read from the window, where OsSinitData says it is. A signed list of it permits like an
+ * unsigned one if its signature verifies (see bleiwurzel_rsa_verify) and its counter is at least the one that the record has for the list of its
+ * number. The nine numbers after them are the platform's, in the order of struct bleiwurzel_platform.
  * The STM image is exactly the bytes that SINIT measures: the STM's static image, from the first byte of MSEG on and as long as the STM's header
  * says. All of what is lent is hashed, and no field of it is read. With no STM its length is 0. It is hashed at most once, and only where a list
  * that permits otherwise holds an STM element (type 0x14); under ANY it never is.
@@ -261,6 +263,21 @@ uint32_t bleiwurzel_policy_element_at(const uint8_t *file, size_t file_length, s
  * Lent for reading: message. Written: digest.
  */
 void bleiwurzel_sha256(const uint8_t *message, size_t message_length, uint8_t digest[32]);
+
+/* ---- RSA signatures ----------------------------------------------------------------------------------------------------------------- */
+
+/*
+ * Whether a signature of a message verifies: RSASSA-PKCS1-v1_5 of RFC 8017 with SHA-256 and the exponent 65537, as for a signed list. The key is
+ * its modulus; key and signature are numbers with the lowest byte first, as they stand in a policy file.
+ * Of a signed list the message is its bytes from BLEIWURZEL_LIST_OFFSET up to BLEIWURZEL_LIST_SIGNATURE: header, elements, counter, key size and
+ * key.
+ *
+ * Lent for reading: key, signature and message. Any lengths may be given: the answer is false where the key has another length than 256 or 384
+ * bytes, and where the signature has another length than the key. It is false as well where the modulus is 0 or even, and where the
+ * signature is not below it.
+ */
+bool bleiwurzel_rsa_verify(const uint8_t *key, size_t key_length, const uint8_t *signature, size_t signature_length,
+                           const uint8_t *message, size_t message_length);
 
 /* ---- Shorter to call ---------------------------------------------------------------------------------------------------------------- */
 

@@ -243,6 +243,37 @@ static void policies(void)
     NEED(bleiwurzel_policy_element_at(file, sizeof file - 2, 44, fields) == BLEIWURZEL_ELEMENT_STM);
 }
 
+/* The signed list of a policy file by tboot's tools, which is its second list. The program is run at the repository's top. */
+static void signatures(void)
+{
+    static uint8_t file[BLEIWURZEL_MOST_POLICY];
+    FILE *stored = fopen("crates/policy_show/data/signed2048-0x201.data", "rb");
+    NEED(stored != NULL);
+    if (stored == NULL)
+        return;
+    size_t length = fread(file, 1, sizeof file, stored);
+    fclose(stored);
+    uint64_t fields[9];
+    NEED(bleiwurzel_policy_list(file, length, 1, fields) == BLEIWURZEL_LIST_SIGNED);
+    uint8_t *key = file + fields[BLEIWURZEL_LIST_KEY], *signature = file + fields[BLEIWURZEL_LIST_SIGNATURE];
+    uint8_t *message = file + fields[BLEIWURZEL_LIST_OFFSET];
+    const size_t k = fields[BLEIWURZEL_LIST_KEY_SIZE], signed_length = (size_t)(signature - message);
+    NEED(k == 256 && bleiwurzel_rsa_verify(key, k, signature, k, message, signed_length));
+    NEED(!bleiwurzel_rsa_verify(key, k, signature, k, message, signed_length - 1));
+    NEED(!bleiwurzel_rsa_verify(key, k, signature, k, message, 0));
+    NEED(!bleiwurzel_rsa_verify(key, k - 1, signature, k - 1, message, signed_length));
+    NEED(!bleiwurzel_rsa_verify(key, k, signature, k - 1, message, signed_length));
+    NEED(!bleiwurzel_rsa_verify(key, 0, signature, 0, message, signed_length));
+    NEED(!bleiwurzel_rsa_verify(key, k, key, k, message, signed_length)); /* a signature that is the modulus */
+    uint8_t *const bytes[] = { key, signature, message, signature + k - 1, signature - 1 };
+    for (size_t i = 0; i < sizeof bytes / sizeof bytes[0]; i++) {
+        *bytes[i] ^= 1;
+        NEED(!bleiwurzel_rsa_verify(key, k, signature, k, message, signed_length));
+        *bytes[i] ^= 1;
+    }
+    NEED(bleiwurzel_rsa_verify(key, k, signature, k, message, signed_length));
+}
+
 int main(void)
 {
     build_heap();
@@ -256,6 +287,7 @@ int main(void)
     measurements();
     stm_images();
     policies();
+    signatures();
     (void)example_main;
     return wrong;
 }

@@ -1,12 +1,12 @@
 #!/usr/bin/env bash
-# Runs every command line of tboot's tools that docs/REFUSALS.md recommends, as it stands there, and has the tool check an image under
-# each policy that they make. Where tboot's tools (Debian's package tboot) are not installed it says so and passes over.
+# Runs every command line of tboot's tools and of openssl that docs/REFUSALS.md recommends, as it stands there, and has the tool check an image
+# under each policy that they make. Where these (Debian's packages tboot and openssl) are not installed it says so and passes over.
 set -euo pipefail
 PATH=$PATH:/usr/sbin
 top=$(cd "$(dirname "$0")/.." && pwd)
-for name in lcp2_crtpolelt lcp2_crtpollist lcp2_crtpol; do
+for name in lcp2_crtpolelt lcp2_crtpollist lcp2_crtpol openssl; do
     if ! command -v "$name" >/dev/null; then
-        echo "passed over: there is no $name (Debian's package tboot), so the command lines of docs/REFUSALS.md were not run"
+        echo "passed over: there is no $name (Debian's packages tboot and openssl), so the command lines of docs/REFUSALS.md were not run"
         exit 0
     fi
 done
@@ -58,19 +58,28 @@ commands() {
     grep -o '`[^`]*`' "$top/docs/REFUSALS.md" | tr -d '`' | grep "^$1 " | sort -u
 }
 
-# run NAME: runs them. Of each list policies are made and judged.
+# filled LINE: the same with values for the words in capitals.
+filled() {
+    local line=${1/STM-DIGEST/$stm_digest}
+    line=${line/DIGEST/$digest}
+    echo "${line/COUNTER/$counter}"
+}
+
+# run NAME: runs them. Of each list policies are made and judged, and then of the same list when it is signed.
 run() {
     local line lines
     lines=$(commands "$1") || fail "the page has no command line of $1"
     while IFS= read -r line; do
         echo "+ $line"
-        line=${line/STM-DIGEST/$stm_digest}
-        bash -euc "${line/DIGEST/$digest}" || fail "refused by the tool: $line"
+        line=$(filled "$line")
+        bash -euc "$line" || fail "refused by the tool: $line"
         case $1 in
-        lcp2_crtpollist)
+        "lcp2_crtpollist --create")
             list=$line
             run lcp2_crtpol
+            run "lcp2_crtpollist --sign"
             ;;
+        "lcp2_crtpollist --sign") run lcp2_crtpol ;;
         lcp2_crtpol) judge "$line" "$list" ;;
         esac
     done <<<"$lines"
@@ -95,11 +104,13 @@ printf '\x80' | dd of=debug.bin bs=1 seek=15 conv=notrunc status=none
 digest=$("$bleiwurzel" check --capture "$capture" | sed -n 's/^  digest  //p')
 head -c 8192 "$capture" >stm.bin
 stm_digest=$(sha256sum stm.bin | cut -c 1-64)
+counter=5
 
 run echo
 run lcp2_crtpolelt
+run openssl
 : >policy.data
-run lcp2_crtpollist
+run "lcp2_crtpollist --create"
 commands lcp2_crtpollist | grep stm.elt >/dev/null || fail "the page has no command line for a list with an STM element"
 commands lcp2_crtpol | grep -e '--ctrl 0x02' >/dev/null || fail "the page has no command line for a record that admits a debug module"
 
@@ -121,4 +132,52 @@ lcp2_crtpollist --create --listver 0x201 --out policy.lst mle.elt stm.elt
 bash -euc "$again"
 "$bleiwurzel" policy policy.data | grep -q "hashes\[0\]: $stm_digest" || fail "tboot's STM element does not name the STM image"
 expect sinit.bin "refused 29" "a list for another STM image" --stm sinit.bin
-echo "every command line of tboot's tools in docs/REFUSALS.md was run"
+
+# What the page says of signed lists: signed with a lower counter, changed, signed with another hash, signed with a key of 3,072 bits.
+sign=$(commands "lcp2_crtpollist --sign")
+asking=$(filled "$(commands lcp2_crtpol | grep -- '--rev')")
+
+# signed NAME VERIFIES ANSWER WORDS..: makes a list, signs it with these words more, and makes a record that asks for the counter.
+signed() {
+    lcp2_crtpollist --create --listver 0x201 --out policy.lst mle.elt
+    bash -euc "$(filled "$sign") ${*:4}"
+    bash -euc "$asking"
+    judged "$@"
+}
+
+# judged NAME VERIFIES ANSWER: whether the tool says so of the signature, and the answer.
+judged() {
+    "$bleiwurzel" policy policy.data | grep -q "signature verifies: $2" || fail "'signature verifies: $2' was expected: $1"
+    expect sinit.bin "$3" "$1"
+}
+
+low="its counter $((counter - 1)) is below $counter, which the record asks of list 0 (record offset 6)"
+signed "the record's counter" yes permitted
+signed "a greater counter" yes permitted --rev $((counter + 1))
+signed "a lower counter" yes "refused 29" --rev $((counter - 1))
+check sinit.bin | tr -s '\n ' '  ' | grep -qF "$low" || fail "the tool does not say: $low"
+mv record.pol before.pol
+bash -euc "$(filled "$sign")"
+bash -euc "$asking"
+judged "the same list, signed again" yes permitted
+cmp before.pol record.pol || fail "a list that is signed again makes another record"
+printf '\x80' | dd of=policy.data bs=1 seek=52 conv=notrunc status=none # the control of element 0
+judged "a list that was changed after it was signed" no "refused 29"
+
+# behind COUNTERS: the policy of an empty list and the signed one, under a record that asks for these counters.
+behind() {
+    local line=${asking/--rev $counter/--rev $1}
+    bash -euc "${line/%policy.lst/empty.lst policy.lst}"
+}
+
+lcp2_crtpollist --create --listver 0x201 --out empty.lst
+behind "$((counter + 1)),$counter"
+judged "the counter of list 1" yes permitted
+behind "$counter,$((counter + 1))"
+judged "a greater counter for list 1" yes "refused 29"
+signed "another hash" no "refused 29" --hashalg sha384
+bash -euc "$(commands "openssl genrsa" | sed 's/2048/3072/')"
+bash -euc "$(commands "openssl rsa")"
+asking=${asking/rsa-2048-sha256/rsa-3072-sha256}
+signed "3,072 bits" yes permitted
+echo "every command line of tboot's tools and of openssl in docs/REFUSALS.md was run"

@@ -43,6 +43,14 @@ extern "C" {
     fn bleiwurzel_policy_element(file: *const u8, file_length: usize, i: usize, j: usize, fields: *mut [u64; 8]) -> u32;
     fn bleiwurzel_policy_element_at(file: *const u8, file_length: usize, at: usize, fields: *mut [u64; 8]) -> u32;
     fn bleiwurzel_sha256(message: *const u8, message_length: usize, digest: *mut [u8; 32]);
+    fn bleiwurzel_rsa_verify(
+        key: *const u8,
+        key_length: usize,
+        signature: *const u8,
+        signature_length: usize,
+        message: *const u8,
+        message_length: usize,
+    ) -> bool;
 }
 
 pub fn check(parts: &Parts, platform: &Platform, pages: &mut [u64]) -> Answer {
@@ -142,4 +150,11 @@ pub fn sha256(message: &[u8]) -> [u8; 32] {
     // SAFETY: as in `policy`.
     unsafe { bleiwurzel_sha256(message.as_ptr(), message.len(), &mut digest) };
     digest
+}
+
+pub fn rsa_verify(key: &[u8], signature: &[u8], message: &[u8]) -> bool {
+    // SAFETY: each slice is passed with its own length, and is lent for reading.
+    unsafe {
+        bleiwurzel_rsa_verify(key.as_ptr(), key.len(), signature.as_ptr(), signature.len(), message.as_ptr(), message.len())
+    }
 }

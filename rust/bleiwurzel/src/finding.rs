@@ -109,7 +109,8 @@ fn all(parts: &Parts, at_hand: &AtHand, platform: &Platform, places: usize) -> S
     let reading = grammar::read(file.bytes, Some(file.base))?;
     lists::hash(&reading, file.bytes, &record)?;
     let digest = at_hand.digest.unwrap_or_else(|| image::digest(parts.window, platform.window_base, &mapped));
-    lists::permits(&reading, file.bytes, &lists::Criteria { module: &module, digest }, lists::Stm::of(parts.stm))
+    let criteria = lists::Criteria { module: &module, record: &record, digest };
+    lists::permits(&reading, file.bytes, &criteria, lists::Stm::of(parts.stm))
 }
 
 fn fail<T>(number: u32, place: impl Into<String>, expected: impl Into<String>, found: impl Into<String>) -> Step<T> {

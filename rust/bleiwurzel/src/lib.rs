@@ -150,3 +150,10 @@ pub fn check_capture(capture: &[u8], pages: &mut [u64]) -> Result<Permission, Re
 pub fn sha256(message: &[u8]) -> [u8; 32] {
     ffi::sha256(message)
 }
+
+/// Whether an RSA signature of a message verifies, by the library: RSASSA-PKCS1-v1_5 of RFC 8017 with SHA-256 and the exponent 65,537. The key
+/// is its modulus, of 256 or 384 bytes, and the signature has as many; with other lengths none verifies. In both the lowest byte comes first, as
+/// in a policy file. [`policy::verifies`] asks it of a list.
+pub fn rsa_verify(key: &[u8], signature: &[u8], message: &[u8]) -> bool {
+    ffi::rsa_verify(key, signature, message)
+}

@@ -1,7 +1,7 @@
 //! The reader of policy files: the number of a string, any list or element of it by number or at an offset, and all of them in turn.
 //! Offsets count from the file's first byte.
 
-use crate::{ffi, refusals, Refusal};
+use crate::{ffi, rsa_verify, Refusal};
 use std::ops::Range;
 
 /// The offset of the first list of every policy file.
@@ -172,11 +172,21 @@ pub fn elements(file: &[u8], list: &List) -> Vec<Element> {
     std::iter::from_fn(next).collect()
 }
 
-/// Why a list permits no image at all, where that is so by its signature or by the types of its elements, which come with their offsets.
-pub fn hindrance(signed: bool, elements: impl Iterator<Item = (u64, u32)>) -> Option<String> {
-    if signed {
-        return Some(format!("it is signed, and signed lists {}", refusals::SIGNED_LISTS));
-    }
+/// Whether the signature of a signed list verifies; none for a list that is unsigned or of a longer file. What is signed is the list up to
+/// its signature: header, elements, counter, key size and key.
+pub fn verifies(file: &[u8], list: &List) -> Option<bool> {
+    let Signed { key, signature, .. } = list.signed.as_ref()?;
+    let message = file.get(list.bytes.start..signature.start)?;
+    Some(rsa_verify(file.get(key.clone())?, file.get(signature.clone())?, message))
+}
+
+/// The offset in the policy record of the counter that a signed list of this number must reach. All lists of the file are counted.
+pub fn counter_at(list: usize) -> usize {
+    6 + 2 * list
+}
+
+/// Why a list permits no image at all, where that is so by the types of its elements, which come with their offsets.
+pub fn hindrance(elements: impl Iterator<Item = (u64, u32)>) -> Option<String> {
     let (j, (at, kind)) = elements.enumerate().find(|(_, (_, kind))| ![LAUNCH, CUSTOM, STM].contains(kind))?;
     let whose = if kind == TBOOT_CUSTOM { ", as tboot's tools write custom elements," } else { "" };
     Some(format!(

@@ -83,8 +83,8 @@ macro_rules! record {
 
 /// Makes a policy record and a policy file of a policy list. These are command lines of tboot's tools, which `tests/tboot_commands.sh` runs.
 macro_rules! make_policy {
-    () => {
-        concat!("`lcp2_crtpol --create --type list ", record!(), " --data policy.data policy.lst`")
+    ($($more:literal)?) => {
+        concat!("`lcp2_crtpol --create --type list ", $($more, " ",)? record!(), " --data policy.data policy.lst`")
     };
 }
 
@@ -108,15 +108,6 @@ macro_rules! under_any {
         "It holds under ANY too."
     };
 }
-
-macro_rules! signed_lists {
-    () => {
-        "are read and measured, but do not permit yet"
-    };
-}
-
-/// What holds of signed lists, for who says of one list why it does not permit.
-pub const SIGNED_LISTS: &str = signed_lists!();
 
 pub static TEXTS: [Text; 30] = [
     Text {
@@ -533,11 +524,7 @@ pub static TEXTS: [Text; 30] = [
         technician: &["Replace the module by the vendor's production module. Do not loosen the policy to get the host up."],
         builder: &[
             "Ship production modules.",
-            concat!(
-                "On test hosts only, set control bit 1 and provision the record anew: `lcp2_crtpol --create --type list --ctrl 0x02 ",
-                record!(),
-                " --data policy.data policy.lst`."
-            ),
+            concat!("On test hosts only, set control bit 1 and provision the record anew: ", make_policy!("--ctrl 0x02"), "."),
         ],
     },
     Text {
@@ -610,6 +597,7 @@ pub static TEXTS: [Text; 30] = [
             in file order, is PolicyHash, 32 bytes at 38 in the record.",
         causes: &[
             "The policy file was updated and the record in the TPM was not, or the other way round.",
+            "A list was signed with another key than the one that the record was made for.",
             "The record of another host or another policy was handed over.",
             "Lists were put in another order.",
         ],
@@ -623,15 +611,20 @@ pub static TEXTS: [Text; 30] = [
         number: 29,
         name: "no list",
         meaning: "No list of the policy file permits this image.",
-        rule: "A list permits if it is unsigned, holds only elements of types 0x10, 3 and 0x14, and one 0x10 element with HashAlg 0x000B names \
+        rule: "A list permits if it holds only elements of types 0x10, 3 and 0x14, and one 0x10 element with HashAlg 0x000B names \
             the image's digest and has SINITMinVersion (8 bits at 12 in the element) at most the module's AcmVersion. All of it in one and the \
             same list and element. If the list holds a 0x14 element, some 0x14 element of it with HashAlg 0x000B must name SHA-256 of the STM \
-            image too; without an STM image such a list does not permit.",
+            image too; without an STM image such a list does not permit. If the list is signed, its signature must verify too, and its counter \
+            must be at least the record's for this list: 16 bits at 6 + 2·i in the record for list i, all lists counted from 0. The signature \
+            is RSASSA-PKCS1-v1_5 with SHA-256 and exponent 65,537 over all bytes of the list before it: header, elements, counter, key size and \
+            key. Key and signature stand with their lowest byte first.",
         causes: &[
             "The image was updated and the policy was not: its digest is in no element.",
             "tboot's tools write `custom` elements with type 0x13, not 3. Type 0x13 is not judged, so a list that holds one does not permit, even \
              if another element of it names the image.",
-            concat!("The list is signed. Signed lists ", signed_lists!(), "."),
+            "A signed list was changed after it was signed, or was signed with another hash than SHA-256, so that its signature does not verify.",
+            "The counter of a signed list is below the record's: an older policy file is loaded, or the list was signed with too low a `--rev`, or \
+             without it, which makes the counter 0.",
             "The list holds a platform configuration element (0x11), which this check does not judge.",
             "The list holds an STM element (0x14), and no STM image was handed over: the host has no STM, or `--stm` was left out, or a capture was \
              checked, which has none.",
@@ -642,8 +635,12 @@ pub static TEXTS: [Text; 30] = [
         technician: &[
             "Compare the image's digest that the tool shows with the digests of `bleiwurzel policy FILE`. If it is not among them, image and \
              policy are of different releases.",
-            "If it is among them, look at the reason that the tool gives for each list: signed, another type (0x13 is tboot's `custom`), another \
-             algorithm, SINITMinVersion, the STM image.",
+            "If it is among them, look at the reasons that the tool gives for each list: another type (0x13 is tboot's `custom`), another \
+             algorithm, SINITMinVersion, the STM image, the counter, the signature.",
+            "If a counter is too low, the policy file is older than the record asks: load the newest one from the store. The record refuses older \
+             lists on purpose, so do not lower its counter.",
+            "If a signature does not verify, run `bleiwurzel policy FILE` on the policy file from the store, which says it of every signed list and \
+             needs no record. If it verifies there, load that file again; else hand the list's number to the builder.",
             "If an STM image is missing and the host has an STM, hand it over: `bleiwurzel check --stm FILE ..`. If the host has none, it needs a policy \
              with a list without STM elements.",
             "If the STM image is not named, compare its digest with those of the `stm` elements that `bleiwurzel policy FILE` shows. The file must have \
@@ -653,7 +650,7 @@ pub static TEXTS: [Text; 30] = [
             "Write the digest shown into a file, with a blank after every two digits: `echo DIGEST | sed 's/../& /g' > digest.txt`.",
             "Make an element of it: `lcp2_crtpolelt --create --type mle2 --alg sha256 --out mle.elt digest.txt`. The type is `mle2`; `mle` is a legacy \
              element, which does not permit.",
-            concat!("Put it into an unsigned list that holds nothing but `mle2`, `stm` and type 3 elements: ", make_list!(), "."),
+            concat!("Put it into a list that holds nothing but `mle2`, `stm` and type 3 elements: ", make_list!(), "."),
             "For hosts with an STM, write the STM image's digest (`sha256sum FILE`) into a file of its own: `echo STM-DIGEST | sed 's/../& /g' > stm.txt`.",
             concat!(
                 "Make an element of that, `lcp2_crtpolelt --create --type stm --alg sha256 --out stm.elt stm.txt`, and put both into one list: ",
@@ -662,7 +659,18 @@ pub static TEXTS: [Text; 30] = [
             ),
             "Hosts without an STM need another list, without `stm` elements.",
             "Put `custom` elements of tboot's tools (type 0x13) into a list of their own, or write them with type 3.",
+            "If the site signs, make a key once, `openssl genrsa -out key.pem 2048`, and its public half, `openssl rsa -in key.pem -pubout -out public.pem`. \
+             3,072 bits will do too; then the record is made with `--sign rsa-3072-sha256`, which SINIT looks at and this check does not.",
+            "Sign the finished list, with the counter that the record asks for or a greater one: `lcp2_crtpollist --sign --sigalg rsa --pub public.pem --priv \
+             key.pem --rev COUNTER --out policy.lst`. After any change, of the counter too, sign it again. Leave out `--hashalg`: only SHA-256 \
+             verifies here.",
             concat!("Then make policy file and record anew, since PolicyHash changes: ", make_policy!(), "."),
+            concat!(
+                "If older signed lists must no longer permit, have the record ask for the new counter: ",
+                make_policy!("--rev COUNTER"),
+                ". With several lists, give one counter for each in their order, with commas between, and any number for an unsigned one."
+            ),
+            "A list that is signed again with the same key leaves PolicyHash as it was: then only the policy file is rolled out.",
         ],
     },
     Text {

@@ -1,6 +1,8 @@
 //! What a finding says: the exact field and offset, whole ranges, exact lengths, plain counts; and that it costs no more than it must.
 
 mod common;
+#[path = "common/stored_image.rs"]
+mod stored_image;
 #[path = "common/tool.rs"]
 mod tool;
 
@@ -8,6 +10,7 @@ use bleiwurzel::finding::{self, AtHand, Finding, Lengths};
 use bleiwurzel::{capture, policy, refusals, sha256, MOST_PAGES, MOST_STM};
 use common::*;
 use std::time::{Duration, Instant};
+use stored_image::*;
 use tool::*;
 
 fn found(name: &str) -> Finding {
@@ -251,6 +254,94 @@ fn reasons_about_the_stm_image() {
     assert_eq!(reasons(b"named", lists), [] as [String; 0], "list 0 permits");
 }
 
+/// The reasons for a changed copy of a signed list that permits.
+fn reasons_of(name: &str, change: impl Fn(&mut Image)) -> Vec<String> {
+    let mut image = stored_image(name);
+    change(&mut image);
+    finding::first(&image.parts(), &image.platform, MOST_PAGES).map_or(Vec::new(), |finding| finding.notes)
+}
+
+const UNVERIFIED: &str = "its signature does not verify (key of 256 bytes at file offset 0x62, signature at 0x162)";
+const LOW_COUNTER: &str = "its counter 1 is below 2, which the record asks of list 0 (record offset 6)";
+const UNNAMED: &str = "it does not name the digest; it names 1 other by SHA-256 and 0 by other algorithms";
+
+/// What keeps a signed list from permitting is said all at once.
+#[test]
+fn reasons_about_a_signed_list() {
+    fn low(image: &mut Image) {
+        put(&mut image.record, 6, 2, 2);
+    }
+    fn unverified(image: &mut Image) {
+        flip(image, SIGNED_END - 1);
+    }
+    fn unnamed(image: &mut Image) {
+        let last = image.offset(0x105fff);
+        image.window[last] ^= 1;
+    }
+    type Change = fn(&mut Image);
+    let cases: [(&[Change], &[&str]); 8] = [
+        (&[], &[]),
+        (&[unverified], &[UNVERIFIED]),
+        (&[low], &[LOW_COUNTER]),
+        (&[unnamed], &[UNNAMED]),
+        (&[low, unverified], &[LOW_COUNTER, UNVERIFIED]),
+        (&[unnamed, unverified], &[UNNAMED, UNVERIFIED]),
+        (&[unnamed, low], &[UNNAMED, LOW_COUNTER]),
+        (&[unnamed, low, unverified], &[UNNAMED, LOW_COUNTER, UNVERIFIED]),
+    ];
+    for (changes, expected) in cases {
+        let expected: Vec<String> =
+            if expected.is_empty() { Vec::new() } else { vec![format!("list 0: {}", expected.join("; "))] };
+        assert_eq!(reasons_of(SIGNED, |image| changes.iter().for_each(|change| change(image))), expected);
+    }
+}
+
+/// The counter is the one that the record has for the list's number among all lists, and of an unsigned list none is asked.
+#[test]
+fn reasons_about_the_counter_of_a_later_list() {
+    let none = "it does not name the digest; it names 0 other by SHA-256 and 0 by other algorithms";
+    let low = "its counter 7 is below 256, which the record asks of list 2 (record offset 10)";
+    let expected = [format!("list 0: {none}"), format!("list 1: {none}"), format!("list 2: {low}")];
+    assert_eq!(reasons_of(SIGNED_BEHIND_TWO, |image| (0..8).for_each(|i| put(&mut image.record, 6 + 2 * i, 256, 2))), expected);
+}
+
+#[test]
+fn reasons_about_elements_of_a_signed_list() {
+    let said = |elements: &[Vec<u8>], stm: &[u8]| reasons(stm, |_| vec![signed(elements, 384)]).concat();
+    let key_at = |at: u32| format!("key of 384 bytes at file offset {at:#x}, signature at {:#x}", at + 384);
+    assert_eq!(
+        said(&[element(0x13, b"")], b""),
+        format!(
+            "list 0: element 0 (file offset 0x2c) has type 0x13, as tboot's tools write custom elements, and only types 0x10, 3 and 0x14 are \
+             judged (and it does not name the digest); its signature does not verify ({})",
+            key_at(0x3c)
+        )
+    );
+    assert_eq!(
+        said(&[stm(&[[1; 32]])], b""),
+        format!(
+            "list 0: element 0 (file offset 0x2c) is an STM element (type 0x14), and no STM image was given (and it does not name the \
+             digest); its signature does not verify ({})",
+            key_at(0x60)
+        )
+    );
+}
+
+#[test]
+fn what_is_expected_of_a_list() {
+    let mut image = stored_image(SIGNED);
+    flip(&mut image, SIGNATURE);
+    let digest: String = sha256(&image.bytes()).iter().map(|byte| format!("{byte:02x}")).collect();
+    let finding = finding::first(&image.parts(), &image.platform, MOST_PAGES).expect("a refusal");
+    let expected = format!(
+        "a list of types 0x10, 3 and 0x14 only, with a SHA-256 element of type 0x10 that names {digest} and, if it holds type 0x14, one of that \
+         type that names the STM image; if it is signed, a signature that verifies and a counter not below the record's"
+    );
+    let found = "1 in the file, and none like that".to_string();
+    let place = "the lists of the policy file, counted from 0".to_string();
+    assert_eq!(finding, Finding { number: 29, place, expected, found, notes: vec![format!("list 0: {UNVERIFIED}")] });
+}
+
 /// The times of the STM image's digest, of the check and of the finding, which take turns: the best of three each.
 fn times(image: &Image) -> [Duration; 3] {
     let parts = image.parts();
@@ -278,7 +369,7 @@ fn the_stm_image_is_hashed_where_it_must_be() {
     type Lists = fn([u8; 32]) -> Vec<Vec<u8>>;
     let unneeded: [(&str, Lists); 5] = [
         ("no STM element", |digest| vec![list(&[launch(0, &[digest])])]),
-        ("a signed list", |digest| vec![signed(&[launch(0, &[digest]), stm(&[[1; 32]])], 256)]),
+        ("a signed list that does not verify", |digest| vec![signed(&[launch(0, &[digest]), stm(&[[1; 32]])], 256)]),
         ("an element of type 0x13", |digest| vec![list(&[launch(0, &[digest]), stm(&[[1; 32]]), element(0x13, b"")])]),
         ("another MLE", |_| vec![list(&[launch(0, &[[1; 32]]), stm(&[[1; 32]])])]),
         ("a newer module", |digest| vec![list(&[launch(255, &[digest]), stm(&[[1; 32]])])]),

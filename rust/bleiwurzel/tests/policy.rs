@@ -175,6 +175,23 @@ fn lengths() {
     assert_eq!(policy::read(&[]), Err(Refusal { number: 26 }));
 }
 
+/// The signature of a list covers every byte of it up to the signature itself, and no byte of another list.
+#[test]
+fn signatures() {
+    for name in ["signed2048-0x200.data", "signed3072-0x201.data"] {
+        let mut file = std::fs::read(folder().join("data").join(name)).expect("a stored policy file");
+        let [unsigned, signed] = [0, 1].map(|i| policy::list(&file, i).expect("a list"));
+        assert_eq!((policy::verifies(&file, &unsigned), policy::verifies(&file, &signed)), (None, Some(true)), "{name}");
+        for at in 0..file.len() {
+            file[at] ^= 0x10;
+            assert_eq!(policy::verifies(&file, &signed), Some(!signed.bytes.contains(&at)), "{name}, byte {at}");
+            file[at] ^= 0x10;
+        }
+        assert_eq!(policy::verifies(&file[..file.len() - 1], &signed), None, "{name}: a list of a longer file");
+        assert_eq!(policy::verifies(&[], &signed), None, "{name}: a list of a longer file");
+    }
+}
+
 /// Every byte of some files is changed in several ways; reader and finding come to the same number.
 #[test]
 fn damaged_files() {

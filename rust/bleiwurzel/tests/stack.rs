@@ -78,7 +78,7 @@ fn the_digest() {
 
 #[test]
 fn the_check_of_every_stored_capture() {
-    const AT_MOST: usize = 2336;
+    const AT_MOST: usize = 4368;
     let mut stack = Box::new(Stack([0; SIZE]));
     let mut most = 0;
     for (_, capture) in captures() {

@@ -62,7 +62,8 @@ fn commands_of_tboot_are_whole() {
     let page = markdown();
     let needed = [
         ("lcp2_crtpolelt", &["--create", "--type ", "--alg sha256", "--out "][..]),
-        ("lcp2_crtpollist", &["--create", "--listver 0x20", "--out "]),
+        ("lcp2_crtpollist --create", &["--listver 0x20", "--out "]),
+        ("lcp2_crtpollist --sign", &["--sigalg rsa ", "--pub ", "--priv ", "--rev ", "--out "]),
         ("lcp2_crtpol ", &["--create", "--type ", "--alg sha256", "--mask sha256", "--sign ", "--pol "]),
     ];
     for (tool, words) in needed {
@@ -72,7 +73,8 @@ fn commands_of_tboot_are_whole() {
             words.iter().for_each(|word| assert!(command.contains(word), "'{command}' lacks {word}"));
         }
     }
-    assert!(commands(&page, "lcp2_").iter().all(|command| command.contains(" --create ")), "a tool without what it is to do");
+    let does = |command: &String| [" --create ", " --sign "].iter().any(|action| command.contains(action));
+    assert!(commands(&page, "lcp2_").iter().all(does), "a tool without what it is to do");
     let elements = commands(&page, "lcp2_crtpolelt");
     for kind in ["--type mle2 ", "--type stm "] {
         assert!(elements.iter().any(|command| command.contains(kind)), "no command line for an element with {kind}");
@@ -137,14 +139,16 @@ fn no_text_of_a_refusal_is_written_twice() {
     assert!(again.is_empty(), "written more than once: {again:#?}");
 }
 
-/// Of signed lists the page, the reason for one list and README say the same.
+/// For each of what keeps a signed list from permitting, the page says what is done at the rack and by the builder.
 #[test]
 fn what_is_said_of_signed_lists() {
-    let cause = text(29).expect("a text").causes.iter().find_map(|cause| cause.strip_prefix("The list is signed. Signed lists "));
-    let said = cause.expect("a cause").trim_end_matches('.');
-    let why = bleiwurzel::policy::hindrance(true, std::iter::empty()).expect("a reason");
-    assert_eq!(why, format!("it is signed, and signed lists {said}"));
-    assert!(read("README.md").contains(&format!("| signed policy lists | {said} |")), "README.md does not say: {said}");
+    let about = text(29).expect("a text");
+    for begin in ["If a counter is too low, ", "If a signature does not verify, "] {
+        assert!(about.technician.iter().any(|point| point.starts_with(begin)), "nothing for the rack: {begin}");
+    }
+    for part in ["lcp2_crtpollist --sign ", "lcp2_crtpol --create --type list --rev COUNTER "] {
+        assert!(about.builder.iter().any(|point| point.contains(part)), "nothing for the builder: {part}");
+    }
 }
 
 #[test]

@@ -274,7 +274,7 @@ fn policy_files() {
         assert!(ran.out.contains(part), "{part} is not in {}", ran.out);
     }
     let ran = run(&["policy", &path("signed3072-0x200.data")]);
-    assert!(ran.out.contains("pubkey_size: 0x180 (384)\n") && ran.out.contains("can permit: no, it is signed"), "{}", ran.out);
+    assert!(ran.out.contains("pubkey_size: 0x180 (384)\n"), "{}", ran.out);
     let ran = run(&["policy", &path("27-list-sigalg-0015.pol")]);
     assert_eq!(ran.status, REFUSED);
     assert!(ran.out.contains("expected  0x0010 (none) or 0x0014 (RSASSA)\n  found     0x0015\n"), "{}", ran.out);
@@ -294,6 +294,51 @@ fn policy_files() {
     assert!(ran.status == REFUSED && said.contains(hint), "{}", ran.out);
     let json = run(&["policy", "--json", &record.to_string_lossy()]).out;
     assert!(is_json(&json) && json.contains(&format!("\"notes\": [\"{hint}\"]")), "{json}");
+}
+
+/// Signed lists by tboot's tools, and the same with a bit of the signature, of the counter or of the elements changed.
+#[test]
+fn signatures_of_policy_files() {
+    let folder = folder("signatures_of_policy_files");
+    let path = folder.join("changed").to_string_lossy().into_owned();
+    let can = "    can permit: yes, under a record that asks of list 1 a counter (record offset 8) of at most";
+    let cannot = "    signature verifies: no\n    can permit: no, its signature does not verify\n";
+    for name in ["signed2048-0x200.data", "signed2048-0x201.data", "signed3072-0x200.data", "signed3072-0x201.data"] {
+        let file = std::fs::read(top().join("crates/policy_show/data").join(name)).expect("a policy file");
+        let list = policy::list(&file, 1).expect("a second list");
+        let shown = |changed: Option<usize>| {
+            let mut file = file.clone();
+            changed.iter().for_each(|at| file[*at] ^= 1);
+            std::fs::write(&path, &file).expect("a policy file");
+            [run(&["policy", &path]).out, run(&["policy", "--json", &path]).out]
+        };
+        let [text, json] = shown(None);
+        assert!(text.ends_with(&format!("    signature verifies: yes\n{can} 5\n")), "{name}: {text}");
+        assert!(json.contains("\"verifies\": true") && !json.contains("\"can_permit\": false"), "{name}: {json}");
+        for at in [list.bytes.end - 1, list.elements.end, list.elements.end - 1] {
+            let [text, json] = shown(Some(at));
+            assert!(text.ends_with(cannot), "{name} with another byte {at}: {text}");
+            let signed = json.find("\"verifies\": false").expect("a signature that does not verify");
+            assert!(json[signed..].contains("\"can_permit\": false"), "{name} with another byte {at}: {json}");
+        }
+    }
+}
+
+/// Both what the elements and what the signature keep a list from.
+#[test]
+fn all_that_keeps_a_list_from_permitting() {
+    let folder = folder("all_that_keeps_a_list_from_permitting");
+    let path = folder.join("file").to_string_lossy().into_owned();
+    let said = |elements: &[Vec<u8>]| {
+        std::fs::write(&path, policy_file(&[signed(elements, 256)]).0).expect("a policy file");
+        let out = run(&["policy", &path]).out;
+        out.lines().last().expect("a last line").trim_start().to_string()
+    };
+    let unverified = "its signature does not verify";
+    let unjudged = "element 0 (file offset 0x2c) has type 0x11 and only types 0x10, 3 and 0x14 are judged";
+    assert_eq!(said(&[launch(0, &[[1; 32]])]), format!("can permit: no, {unverified}"));
+    assert_eq!(said(&[element(0x11, b"")]), format!("can permit: no, {unjudged}; {unverified}"));
+    assert_eq!(said(&[]), format!("can permit: no, no element of type 0x10 names a SHA-256 digest; {unverified}"));
 }
 
 /// Showing the most elements that a policy file can have takes far less time than asking for each by its number, which reads the file anew

@@ -105,10 +105,12 @@ Usage:
   bleiwurzel policy FILE [--json]
 
 It shows every list with its elements, digests, key and signature, each with its
-offset in the file, and whether the list can permit an image at all; one that
-holds STM elements can only with an STM image that it names. A file of fewer
-than 36 or more than 65536 bytes is refused with 26, one that is not of the
-grammar with 27, and then the field that is wrong is shown. Exit status 0 or 1.
+offset in the file, whether the signature verifies, and whether the list can
+permit an image at all; one that holds STM elements can only with an STM image
+that it names, and a signed one only under a record that asks for no greater
+counter. A file of fewer than 36 or more than 65536 bytes is refused with 26,
+one that is not of the grammar with 27, and then the field that is wrong is
+shown. Exit status 0 or 1.
 
 What keeps a list from permitting, and what tboot's tools have to do with it:
 bleiwurzel refusals 29

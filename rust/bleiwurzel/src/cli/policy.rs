@@ -2,7 +2,7 @@
 
 use super::json::{hex, Json};
 use super::{args, files, help, report, Misuse, Said, YES};
-use bleiwurzel::policy::{self, Body, Digests, Element, List};
+use bleiwurzel::policy::{self, Body, Digests, Element, List, Signed};
 use bleiwurzel::text::{bytes, digits};
 use bleiwurzel::{finding, RECORD_LENGTH};
 use std::ffi::OsString;
@@ -59,10 +59,16 @@ fn shown(file: &[u8], json: bool) -> String {
     text
 }
 
-/// Why a list cannot permit any image, where that is so.
-fn hindrance(list: &List, elements: &[Element]) -> Option<String> {
+/// Why a list cannot permit any image, where that is so; `verifies` says it of its signature, if it has one.
+fn hindrance(verifies: Option<bool>, elements: &[Element]) -> Option<String> {
+    let unverified = (verifies == Some(false)).then(|| "its signature does not verify".to_string());
+    let all: Vec<String> = hindrance_by_elements(elements).into_iter().chain(unverified).collect();
+    (!all.is_empty()).then(|| all.join("; "))
+}
+
+fn hindrance_by_elements(elements: &[Element]) -> Option<String> {
     let kinds = elements.iter().map(|element| (element.bytes.start as u64, element.kind));
-    if let Some(hindrance) = policy::hindrance(list.signed.is_some(), kinds) {
+    if let Some(hindrance) = policy::hindrance(kinds) {
         return Some(hindrance);
     }
     let sha256 = |digests: &Digests| digests.hash_alg == policy::SHA256 && digests.count > 0;
@@ -104,21 +110,41 @@ fn list_text(file: &[u8], i: usize, list: &List, elements: &[Element]) -> String
     for (j, element) in elements.iter().enumerate() {
         text.push_str(&element_text(file, j, element));
     }
+    let verifies = policy::verifies(file, list);
     if let Some(signed) = &list.signed {
-        let key = signed.key.len();
-        text.push_str(&format!("    signature:\n        revocation_counter: {0:#x} ({0})\n", signed.counter));
-        text.push_str(&format!("        pubkey_size: {key:#x} ({key})\n"));
-        for (name, range) in [("pubkey_value", &signed.key), ("sig_block", &signed.signature)] {
-            text.push_str(&format!("        {name}: offset {:#x}\n", range.start));
-            for line in file[range.clone()].chunks(32) {
-                text.push_str(&format!("            {}\n", digits(line)));
-            }
-        }
+        text.push_str(&signed_text(file, signed));
+        text.push_str(&format!("    signature verifies: {}\n", if verifies == Some(true) { "yes" } else { "no" }));
     }
-    match hindrance(list, elements) {
-        None if needs_stm(elements) => text.push_str("    can permit: yes, with an STM image that it names\n"),
-        None => text.push_str("    can permit: yes\n"),
-        Some(why) => text.push_str(&format!("    can permit: no, {why}\n")),
+    text.push_str(&match hindrance(verifies, elements) {
+        None => format!("    can permit: yes{}\n", needs(i, list, elements)),
+        Some(why) => format!("    can permit: no, {why}\n"),
+    });
+    text
+}
+
+/// What a list that can permit needs besides the image's digest.
+fn needs(i: usize, list: &List, elements: &[Element]) -> String {
+    let stm = needs_stm(elements).then(|| ", with an STM image that it names".to_string());
+    let counter = list.signed.as_ref().map(|signed| {
+        format!(
+            ", under a record that asks of list {i} a counter (record offset {}) of at most {}",
+            policy::counter_at(i),
+            signed.counter
+        )
+    });
+    stm.into_iter().chain(counter).collect()
+}
+
+/// What stands behind the elements of a signed list.
+fn signed_text(file: &[u8], signed: &Signed) -> String {
+    let key = signed.key.len();
+    let mut text = format!("    signature:\n        revocation_counter: {0:#x} ({0})\n", signed.counter);
+    text.push_str(&format!("        pubkey_size: {key:#x} ({key})\n"));
+    for (name, range) in [("pubkey_value", &signed.key), ("sig_block", &signed.signature)] {
+        text.push_str(&format!("        {name}: offset {:#x}\n", range.start));
+        for line in file[range.clone()].chunks(32) {
+            text.push_str(&format!("            {}\n", digits(line)));
+        }
     }
     text
 }
@@ -165,6 +191,7 @@ fn digests<'a>(file: &'a [u8], element: &'a Element) -> impl Iterator<Item = Str
 }
 
 fn list_json(file: &[u8], list: &List, elements: &[Element]) -> Json {
+    let verifies = policy::verifies(file, list);
     let signed = list.signed.as_ref().map_or(Json::Null, |signed| {
         Json::Object(vec![
             ("counter", Json::from(u32::from(signed.counter))),
@@ -173,9 +200,10 @@ fn list_json(file: &[u8], list: &List, elements: &[Element]) -> Json {
             ("key", Json::from(digits(&file[signed.key.clone()]))),
             ("signature_offset", Json::from(signed.signature.start)),
             ("signature", Json::from(digits(&file[signed.signature.clone()]))),
+            ("verifies", Json::Bool(verifies == Some(true))),
         ])
     });
-    let hindrance = hindrance(list, elements);
+    let hindrance = hindrance(verifies, elements);
     Json::Object(vec![
         ("offset", Json::from(list.bytes.start)),
         ("size", Json::from(list.bytes.len())),

@@ -7,8 +7,15 @@ use std::ops::Range;
 
 pub struct List {
     pub bytes: Range<u64>,
-    pub key: Option<Range<u64>>,
+    pub signed: Option<Signed>,
     pub elements: Vec<Element>,
+}
+
+/// What stands behind the elements of a signed list. The signature ends the list.
+pub struct Signed {
+    pub counter: u64,
+    pub key: Range<u64>,
+    pub signature: Range<u64>,
 }
 
 pub struct Element {
@@ -116,25 +123,27 @@ impl Reader<'_> {
         need(size <= left, 27, place, format!("at most {left}, the bytes left in the file"), size.to_string())?;
         let end = at + 8 + size;
         let elements = self.elements(at + 8, end, index)?;
-        let (key, end) = if algorithm == 0x0014 { self.signature(end, index)? } else { (None, end) };
-        Ok(List { bytes: at..end, key, elements })
+        let signed = if algorithm == 0x0014 { Some(self.signed(end, index)?) } else { None };
+        let end = signed.as_ref().map_or(end, |signed| signed.signature.end);
+        Ok(List { bytes: at..end, signed, elements })
     }
 
-    /// The key of a signed list, and the list's end.
-    fn signature(&self, at: u64, index: u64) -> Step<(Option<Range<u64>>, u64)> {
+    fn signed(&self, at: u64, index: u64) -> Step<Signed> {
         let name = |field: &str| format!("{field} of list {index}");
-        self.number(at, 2, &name("the counter"))?;
+        let counter = self.number(at, 2, &name("the counter"))?;
         let size = self.number(at + 2, 2, &name("the key size"))?;
         let place = self.place(&name("the key size"), at + 2);
         need(size == 256 || size == 384, 27, place, "256 or 384", size.to_string())?;
         let length = self.file.len() as u64;
-        for (field, begin) in [("the key", at + 4), ("the signature", at + 4 + size)] {
-            let left = length.saturating_sub(begin);
-            let place = self.place(&name(field), begin);
+        let key = at + 4..at + 4 + size;
+        let signature = key.end..key.end + size;
+        for (field, range) in [("the key", &key), ("the signature", &signature)] {
+            let left = length.saturating_sub(range.start);
+            let place = self.place(&name(field), range.start);
             let found = format!("{} left", bytes(left));
-            need(begin + size <= length, 27, place, format!("{size} bytes inside the file"), found)?;
+            need(range.end <= length, 27, place, format!("{size} bytes inside the file"), found)?;
         }
-        Ok((Some(at + 4..at + 4 + size), at + 4 + 2 * size))
+        Ok(Signed { counter, key, signature })
     }
 
     fn elements(&self, begin: u64, end: u64, list: u64) -> Step<Vec<Element>> {

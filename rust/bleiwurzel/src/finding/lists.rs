@@ -1,15 +1,17 @@
 //! Rules 23 to 26, 28 and 29: the policy record, the policy file's place and hash, and which list permits.
 
-use super::grammar::{Body, Digests, Element, List};
+use super::grammar::{Body, Digests, Element, List, Signed};
 use super::heap::OsSinitData;
 use super::module::Module;
 use super::{bytes_of, digits, field, need, Finding, Length, Step};
-use crate::{policy, sha256, RECORD_LENGTH};
+use crate::{policy, rsa_verify, sha256, RECORD_LENGTH};
 
 const SHA256: u64 = policy::SHA256 as u64;
 
 pub struct Record {
     pub any: bool,
+    /// What a signed list's counter must reach, by the number of the list.
+    counters: Vec<u64>,
     control: u64,
     sinit_min_version: u64,
     hash: Vec<u8>,
@@ -28,6 +30,7 @@ pub fn record(record: &[u8], length: &Length) -> Step<Record> {
     need(kind <= 1, 23, "type, record offset 4", "0 (LIST) or 1 (ANY)", kind.to_string())?;
     Ok(Record {
         any: kind == 1,
+        counters: (0..policy::MOST_LISTS as usize).map(|list| field(record, policy::counter_at(list) as u64, 2)).collect(),
         control: field(record, 22, 4),
         sinit_min_version: field(record, 5, 1),
         hash: bytes_of(record, 38, 32).to_vec(),
@@ -84,13 +87,13 @@ fn part(file: &[u8], range: &std::ops::Range<u64>) -> Vec<u8> {
 
 /// Rule 28.
 pub fn hash(lists: &[List], file: &[u8], record: &Record) -> Step<()> {
-    let measures: Vec<[u8; 32]> =
-        lists.iter().map(|list| sha256(&part(file, list.key.as_ref().unwrap_or(&list.bytes)))).collect();
+    let measured = |list: &List| part(file, list.signed.as_ref().map_or(&list.bytes, |signed| &signed.key));
+    let measures: Vec<[u8; 32]> = lists.iter().map(|list| sha256(&measured(list))).collect();
     let hash = sha256(&measures.concat());
     if hash[..] == record.hash {
         return Ok(());
     }
-    let kind = |list: &List| if list.key.is_some() { "key" } else { "list" };
+    let kind = |list: &List| if list.signed.is_some() { "key" } else { "list" };
     let notes = lists.iter().zip(&measures).enumerate();
     Err(Finding {
         number: 28,
@@ -106,6 +109,7 @@ pub fn hash(lists: &[List], file: &[u8], record: &Record) -> Step<()> {
 /// What a list is judged by besides the STM image.
 pub struct Criteria<'a> {
     pub module: &'a Module,
+    pub record: &'a Record,
     /// Of the pages.
     pub digest: [u8; 32],
 }
@@ -132,17 +136,18 @@ impl<'a> Stm<'a> {
 pub fn permits(lists: &[List], file: &[u8], criteria: &Criteria, mut stm: Stm) -> Step<()> {
     let mut notes = Vec::new();
     for (i, list) in lists.iter().enumerate() {
-        match objection(list, file, criteria, &mut stm) {
-            None => return Ok(()),
-            Some(why) => notes.push(format!("list {i}: {why}")),
+        let why = objections(i, list, file, criteria, &mut stm);
+        if why.is_empty() {
+            return Ok(());
         }
+        notes.push(format!("list {i}: {}", why.join("; ")));
     }
     Err(Finding {
         number: 29,
         place: "the lists of the policy file, counted from 0".to_string(),
         expected: format!(
-            "an unsigned list of types 0x10, 3 and 0x14 only, with a SHA-256 element of type 0x10 that names {} and, if it holds \
-             type 0x14, one of that type that names the STM image",
+            "a list of types 0x10, 3 and 0x14 only, with a SHA-256 element of type 0x10 that names {} and, if it holds type 0x14, one of \
+             that type that names the STM image; if it is signed, a signature that verifies and a counter not below the record's",
             digits(&criteria.digest)
         ),
         found: format!("{} in the file, and none like that", lists.len()),
@@ -150,8 +155,22 @@ pub fn permits(lists: &[List], file: &[u8], criteria: &Criteria, mut stm: Stm) -
     })
 }
 
-/// Why a list does not permit, where it does not. The STM image is looked at last, since it has to be hashed for that.
-fn objection(list: &List, file: &[u8], criteria: &Criteria, stm: &mut Stm) -> Option<String> {
+/// All that keeps a list from permitting; nothing where it permits. The STM image is looked at last and only where all else is well, since it
+/// has to be hashed for that.
+fn objections(i: usize, list: &List, file: &[u8], criteria: &Criteria, stm: &mut Stm) -> Vec<String> {
+    let mut all = Vec::from_iter(of_elements(list, file, criteria, stm));
+    if let Some(signed) = &list.signed {
+        all.extend(low_counter(i, signed, criteria.record));
+        all.extend(bad_signature(list.bytes.start, signed, file));
+    }
+    if all.is_empty() {
+        all.extend(other_stm(list, file, stm));
+    }
+    all
+}
+
+/// Why the elements of a list do not permit, whatever the digest of the STM image is.
+fn of_elements(list: &List, file: &[u8], criteria: &Criteria, stm: &Stm) -> Option<String> {
     let named: Vec<Launch> = launches(list).filter(|launch| names(launch.digests, file, &criteria.digest)).collect();
     if let Some(hindrance) = hindrance(list, stm) {
         let also = if named.is_empty() { " (and it does not name the digest)" } else { "" };
@@ -160,13 +179,13 @@ fn objection(list: &List, file: &[u8], criteria: &Criteria, stm: &mut Stm) -> Op
     if named.is_empty() {
         return Some(format!("it does not name the digest; it names {}", others(launches(list).map(|launch| launch.digests))));
     }
-    too_new(&named, criteria.module.acm_version).or_else(|| other_stm(list, file, stm))
+    too_new(&named, criteria.module.acm_version)
 }
 
-/// Why a list permits no image, whatever it names.
+/// Why the elements of a list permit no image, whatever they name.
 fn hindrance(list: &List, stm: &Stm) -> Option<String> {
     let kinds = list.elements.iter().map(|element| (element.at, element.kind as u32));
-    if let Some(hindrance) = policy::hindrance(list.key.is_some(), kinds) {
+    if let Some(hindrance) = policy::hindrance(kinds) {
         return Some(hindrance);
     }
     if !stm.image.is_empty() {
@@ -174,6 +193,28 @@ fn hindrance(list: &List, stm: &Stm) -> Option<String> {
     }
     let (j, element) = list.elements.iter().enumerate().find(|(_, element)| matches!(element.body, Body::Stm(_)))?;
     Some(format!("element {j} (file offset {:#x}) is an STM element (type 0x14), and no STM image was given", element.at))
+}
+
+/// That the counter of a signed list is below the one that the record has for the list of this number.
+fn low_counter(i: usize, signed: &Signed, record: &Record) -> Option<String> {
+    let (counter, asked) = (signed.counter, *record.counters.get(i)?);
+    let at = policy::counter_at(i);
+    (counter < asked)
+        .then(|| format!("its counter {counter} is below {asked}, which the record asks of list {i} (record offset {at})"))
+}
+
+/// That the signature of a list, which begins at this offset, does not verify. What is signed is all that stands before the signature.
+fn bad_signature(begin: u64, signed: &Signed, file: &[u8]) -> Option<String> {
+    let Signed { key, signature, .. } = signed;
+    let verifies = rsa_verify(&part(file, key), &part(file, signature), &part(file, &(begin..signature.start)));
+    (!verifies).then(|| {
+        format!(
+            "its signature does not verify (key of {} bytes at file offset {:#x}, signature at {:#x})",
+            key.end - key.start,
+            key.start,
+            signature.start
+        )
+    })
 }
 
 /// A launch element of a list.

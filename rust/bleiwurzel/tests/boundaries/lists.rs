@@ -3,6 +3,7 @@
 //! A record of another length than 70 bytes is 23 before its PolicyHash is looked at.
 
 use crate::common::*;
+use crate::stored_image::*;
 use bleiwurzel::Answer;
 use plain_sha256::digest_in_parts;
 
@@ -268,12 +269,12 @@ fn lists() {
     fn not() -> Vec<u8> {
         list(&[launch(5, &[other(0)])])
     }
-    fn by_key() -> Vec<u8> {
+    fn unverified() -> Vec<u8> {
         signed(&[launch(5, &[digest()])], 256)
     }
     hold_lists(&[
-        ("a signed list", || vec![by_key()], Err(29)),
-        ("a signed list and an unsigned one", || vec![by_key(), naming()], Ok(1)),
+        ("a signed list that does not verify", || vec![unverified()], Err(29)),
+        ("a signed list that does not verify and an unsigned one", || vec![unverified(), naming()], Ok(1)),
         ("list 0 of three", || vec![naming(), not(), not()], Ok(0)),
         ("list 1 of three", || vec![not(), naming(), not()], Ok(1)),
         ("list 2 of three", || vec![not(), not(), naming()], Ok(2)),
@@ -286,4 +287,57 @@ fn lists() {
             Ok(1),
         ),
     ]);
+}
+
+/// The counter that the record asks of a list, which is 16 bits from offset 6 on for list 0.
+fn asks(i: &mut Image, list: usize, counter: u64) {
+    put(&mut i.record, 6 + 2 * list, counter, 2);
+}
+
+#[test]
+fn counters() {
+    hold(
+        &stored_image(SIGNED),
+        &[
+            ("counter 1, the record asks 1", |_| (), 0),
+            ("counter 1, the record asks 0", |i| asks(i, 0, 0), 0),
+            ("counter 1, the record asks 2", |i| asks(i, 0, 2), 29),
+            ("counter 1, the record asks 0x0100", |i| asks(i, 0, 0x0100), 29),
+            ("counter 1, the record asks 0xffff", |i| asks(i, 0, 0xffff), 29),
+            ("counter 1, the record asks 0xffff of every other list", |i| (1..8).for_each(|list| asks(i, list, 0xffff)), 0),
+            ("counter 1, SINITMinVersion of the record 2", |i| put(&mut i.record, 5, 2, 1), 0),
+        ],
+    );
+    hold(
+        &stored_image(SIGNED_BEHIND_TWO),
+        &[
+            ("counter 7 of list 2, the record asks 7", |i| asks(i, 2, 7), 0),
+            ("counter 7 of list 2, the record asks 8", |i| asks(i, 2, 8), 29),
+            ("the record asks 8 of list 0 and list 1", |i| (0..2).for_each(|list| asks(i, list, 8)), 0),
+            ("the record asks 8 of list 3", |i| asks(i, 3, 8), 0),
+        ],
+    );
+    hold(
+        &with_lists(&image(&Shape::default()), &[naming()]),
+        &[("the record asks 0xffff of an unsigned list", |i| asks(i, 0, 0xffff), 0)],
+    );
+}
+
+/// Every part of a list before its signature is signed. The key is measured too, so that another one is 28.
+#[test]
+fn signatures() {
+    hold(
+        &stored_image(SIGNED),
+        &[
+            ("a signature that verifies", |_| (), 0),
+            ("its first byte", |i| flip(i, SIGNATURE), 29),
+            ("its last byte", |i| flip(i, SIGNED_END - 1), 29),
+            ("the list's version, 0x0200", |i| flip(i, SIGNED_LIST), 29),
+            ("an element's control", |i| flip(i, SIGNED_CONTROL), 29),
+            ("the counter's high byte, 0x0101", |i| flip(i, SIGNED_COUNTER + 1), 29),
+            ("the key's first byte", |i| flip(i, SIGNED_KEY), 28),
+        ],
+    );
+    assert_eq!(asked("a signed list", &stored_image(SIGNED)).list, 0);
+    assert_eq!(asked("a signed list behind two", &stored_image(SIGNED_BEHIND_TWO)).list, 2);
 }

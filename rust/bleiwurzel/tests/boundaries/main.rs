@@ -15,4 +15,6 @@ mod order;
 mod protection;
 mod record;
 mod stm;
+#[path = "../common/stored_image.rs"]
+mod stored_image;
 mod walk;

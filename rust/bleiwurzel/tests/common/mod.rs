@@ -4,10 +4,12 @@
 mod asked;
 mod image;
 mod policy_file;
+mod signed_list;
 
 pub use asked::*;
 pub use image::*;
 pub use policy_file::*;
+pub use signed_list::*;
 use std::collections::HashMap;
 use std::path::{Path, PathBuf};
 

@@ -2,7 +2,7 @@
 -- so far and the elements that are left; and what that says of the list.
 use Prim.Native.Nat.{ℕ}
 use mathlib.Core.Path.{_≡_, refl, ap, sym, _∙_}
-use mathlib.Core.Bool.{Bool, true, false, not, _&&_, _||_, or-true, or-false, and-true, and-false}
+use mathlib.Core.Bool.{Bool, true, false, not, _&&_, _||_, or-true, or-false}
 use mathlib.Core.List.{List, []}
 use native.Mathlib.Omega.{arith}
 use borrow.Author.Tests.{lt-ltb, not-true, not-false}
@@ -136,18 +136,3 @@ module _ (k : Criteria) (es : List Element) (j : Judgement) (is : j ≡ judgemen
 
     pub by-digest : (length (k .stm) ≡ 0 → ⊥) → (d : List ℕ) → d ≡ sha256 (k .stm) → (r : Bool) → r ≡ any (namesStm d) es → r ≡ elementsPermit k es
     by-digest h d e r named = rw (← permit-if, lt-ltb 0 (length (k .stm)) (omega arith), ← e) named
-
--- ELEMENTS AND SIGNATURE TOGETHER, by what is known of the elements
-
-module _ (e v : Bool) where
-  pub elements-refuse : false ≡ e → false ≡ (e && v)
-  elements-refuse h = rw (← h)
-
-  pub signature-refuses : v ≡ false → false ≡ (e && v)
-  signature-refuses h = rw (h, and-false e)
-
-  pub signature-decides : true ≡ e → (r : Bool) → r ≡ v → r ≡ (e && v)
-  signature-decides h r is = rw (← h) is
-
-  pub elements-decide : v ≡ true → (r : Bool) → r ≡ e → r ≡ (e && v)
-  elements-decide h r is = rw (h, and-true e) is

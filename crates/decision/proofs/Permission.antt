@@ -1,6 +1,6 @@
 -- Rule 29: the test of a list says what the propositions of specs/Meaning.antt say, and so does the number of the list that is reported.
 use Prim.Native.Nat.{ℕ, _+_, _≤_, _<_}
-use mathlib.Core.Path.{_≡_, refl, ap, sym, _∙_}
+use mathlib.Core.Path.{_≡_, refl, sym, _∙_}
 use mathlib.Core.Logic.{_↔_, _≢_, _⊎_, ⊎-elim}
 use mathlib.Core.Bool.{Bool, true, false, true≢false}
 use mathlib.Core.List.{List}
@@ -13,8 +13,9 @@ use Rattle.policy_grammar.specs.Grammar.{Digests, Body, launchType, customType,
 use Rattle.policy_grammar.specs.Grammar as Grammar
 use Rattle.answer.specs.Answer.{noList}
 use Rattle.sha256.specs.Message.{sha256}
+use Rattle.rsa.proofs.Verified.{verifies-exactly}
 use Rattle.rules.specs.Tests.{any}
-use Rattle.decision.specs.Lists.{Criteria, listsOf, signingHolds, judged, digestsName, names, isStm, namesStm, stmNamed, permits, someFrom, somePermits, lowestFrom, lowestPermitting}
+use Rattle.decision.specs.Lists.{Criteria, listsOf, signedBytes, signingHolds, judged, digestsName, names, isStm, namesStm, stmNamed, permits, someFrom, somePermits, lowestFrom, lowestPermitting}
 use Rattle.decision.specs.Meaning.{DigestsName, Names, NamesStm, StmNamed, SigningHolds, Permits, PermitsAt, SomePermits, Lowest, Reads, PermitsExactly, LowestExactly, BodyFree}
 use Rattle.rules.proofs.Tests.{eqb-exactly, leb-exactly, ltb-exactly, or-exactly, and-exactly, where-holds, every-exactly, any-exactly}
 use Rattle.decision.proofs.Members.{Reported, Unreported, lowest-is}
@@ -65,7 +66,7 @@ stm-exactly image es =
 signing-exactly : (k : Criteria) (i : ℕ) (l : PolicyList) (s : Signing) → (signingHolds k i l s ≡ true) ↔ ((g : Signature) → s ≡ Grammar.signed g → SigningHolds k i l g)
 signing-exactly k i l Grammar.unsigned = (λ t g e. (let z : _≡_ {A = ℕ} 0 1 = cc in absurd (omega arith)), λ p. refl)
 signing-exactly k i l (Grammar.signed s) =
-    let x = and-exactly (λ e. e, λ e. e) (leb-exactly (k .counter i) (s .counter)) in
+    let x = and-exactly (verifies-exactly (s .key) (s .signature) (signedBytes l s)) (leb-exactly (k .counter i) (s .counter)) in
     let here : (signingHolds k i l (Grammar.signed s) ≡ true) ↔ SigningHolds k i l s =
     (λ t. (let w = x .0 t in record { verified = w .0; counter = w .1 }), λ p. x .1 (p .verified, p .counter))
     in

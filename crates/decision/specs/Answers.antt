@@ -6,9 +6,12 @@ use Rattle.policy_record.specs.Record.{revocationCounter}
 use Rattle.decision.specs.declared.LaunchCriteria.{LaunchCriteria}
 use Rattle.decision.specs.Lists.{Criteria, ofGrammar, hashMatches}
 
--- what a list is judged by: what it is judged by of the launch, the STM image, and the policy record's counters
+-- what a list is judged by: the digest of the pages, AcmVersion, the STM image, and the counters of the policy record
+abbrev pub criteriaBy : List ℕ → ℕ → List ℕ → List ℕ → Criteria
+criteriaBy digest acmVersion stm r = record { digest = digest; acmVersion = acmVersion; stm = stm; counter = revocationCounter r }
+
 abbrev pub criteriaOf : LaunchCriteria → List ℕ → List ℕ → Criteria
-criteriaOf k stm r = record { digest = k .digest; acmVersion = k .«acm_version»; stm = stm; counter = revocationCounter r }
+criteriaOf k stm r = criteriaBy (k .digest) (k .«acm_version») stm r
 
 -- rules 27 and 28
 abbrev pub fileRules : List ℕ → List ℕ → List Rule

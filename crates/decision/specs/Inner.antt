@@ -1,11 +1,11 @@
 -- What the contracts of functions cite that are not public: an answer of the policy reader, and what it is the answer for.
-use Prim.Native.Nat.{ℕ, _-_, _<_, _^_}
+use Prim.Native.Nat.{ℕ, _<_, _^_}
 use mathlib.Core.Path.{_≡_}
 use mathlib.Core.Bool.{Bool, true, false, cond, _&&_}
 use mathlib.Core.List.{List, [], _∷_, flatMap}
 use mathlib.Core.Option.{Option, some, none}
 use lib.Dec.{leb}
-use lib.ListN.{length, take, drop}
+use lib.ListN.{length, drop}
 use Rattle.sha256.specs.Message.{sha256}
 use Rattle.rsa.specs.Rsa.{verifies}
 use Rattle.policy_answers.specs.declared.ListAnswer.{ListAnswer}
@@ -20,7 +20,7 @@ use Rattle.decision.specs.declared.StmDigest.{StmDigest}
 use Rattle.decision.specs.declared.Judgement.{Judgement}
 use Rattle.decision.specs.declared.Judgement.the-variants.{No, Yes, IfStmNamed}
 use Rattle.rules.specs.Tests.{every, any}
-use Rattle.decision.specs.Lists.{Criteria, judged, names, isStm}
+use Rattle.decision.specs.Lists.{Criteria, withoutLast, judged, names, isStm}
 
 -- what is measured for a list that is seen
 abbrev pub measuredIn : ListPart → Signing → List ℕ
@@ -39,7 +39,7 @@ reachedSeen least lists.Absent = false
 
 abbrev pub verifiedIn : ListPart → Signing → Bool
 verifiedIn p Grammar.unsigned = true
-verifiedIn p (Grammar.signed g) = verifies (g .key) (g .signature) (take (length (p .whole) - length (g .signature)) (p .whole))
+verifiedIn p (Grammar.signed g) = verifies (g .key) (g .signature) (withoutLast (length (g .signature)) (p .whole))
 
 abbrev pub verifiedSeen : Option ListPart → Bool
 verifiedSeen none = false

@@ -70,7 +70,7 @@ pub record Criteria : Type 0 where
 abbrev pub digestsName : List ℕ → Digests → Bool
 digestsName digest d = eqb (d .hashAlg) sha256Alg && any (same digest) (d .digests)
 
--- "A list permits if it is unsigned, holds only types 0x10 and 3, and some 0x10 element with HashAlg 0x000B names the digest and has
+-- "A list permits if it .. holds only types 0x10 and 3, and some 0x10 element with HashAlg 0x000B names the digest and has
 -- SINITMinVersion at most AcmVersion." "Add 0x14 .. to the permitted types"
 abbrev pub judged : Element → Bool
 judged e = eqb (e .type) launchType || (eqb (e .type) customType || eqb (e .type) stmType)
@@ -105,9 +105,13 @@ stmNamed image es = ltb 0 (length image) && any (namesStm (sha256 image)) es
 abbrev pub elementsPermit : Criteria → List Element → Bool
 elementsPermit k es = every judged es && any (names k) es && (not (any isStm es) || stmNamed (k .stm) es)
 
+-- all bytes but the last n
+abbrev pub withoutLast : ℕ → List ℕ → List ℕ
+withoutLast n b = take (length b - n) b
+
 -- "the list's bytes up to, but without, the signature"
 unfoldable pub signedBytes : PolicyList → Signature → List ℕ
-signedBytes l g = take (length (listBytes l) - length (g .signature)) (listBytes l)
+signedBytes l g = withoutLast (length (g .signature)) (listBytes l)
 
 -- "A signed list permits like an unsigned one if its signature verifies and its counter is at least the record's counter at the same list index."
 abbrev pub signingHolds : Criteria → ℕ → PolicyList → Signing → Bool

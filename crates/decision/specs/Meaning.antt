@@ -4,15 +4,15 @@ use Prim.Native.Nat.{ℕ, _+_, _≤_, _<_}
 use mathlib.Core.Path.{_≡_}
 use mathlib.Core.Logic.{_↔_, _⊎_}
 use mathlib.Core.Bool.{true}
-use mathlib.Core.List.{List, [], _∷_, flatMap}
+use mathlib.Core.List.{List, [], _∷_, _++_, flatMap}
 use mathlib.Core.Option.{some}
 use lib.ListN.{length, getElem?}
 use Rattle.field.specs.Number.{Bytes}
 use Rattle.rules.specs.Rules.{all, firstFailing, Every, Some}
 use Rattle.rules.specs.Meaning.{Meaning, meaning, FirstBroken}
 use Rattle.sha256.specs.Message.{sha256}
-use Rattle.rsa.specs.Rsa.{verifies}
-use Rattle.policy_grammar.specs.Grammar.{Digests, Launch, launchType, customType, stmType, Element, Signature, PolicyList, Reading, Makes}
+use Rattle.rsa.specs.Meaning.{Verifies}
+use Rattle.policy_grammar.specs.Grammar.{Digests, Launch, launchType, customType, stmType, Element, Signature, PolicyList, listBytes, Reading, Makes}
 use Rattle.policy_grammar.specs.Grammar as Grammar
 use Rattle.policy_grammar.specs.Sizes.{leastFile, largestFile}
 use Rattle.policy_record.specs.Record.{sha256Alg, policyHash}
@@ -68,7 +68,7 @@ pub record StmNamed (image : List ℕ) (es : List Element) : Type 0 where
 
 -- the list number i, signed so: its signature verifies, and its counter is at least the record's
 pub record SigningHolds (k : Criteria) (i : ℕ) (l : PolicyList) (g : Signature) : Type 0 where
-  pub verified : verifies (g .key) (g .signature) (signedBytes l g) ≡ true
+  pub verified : Verifies (g .key) (g .signature) (signedBytes l g)
   pub counter : k .counter i ≤ g .counter
 
 -- the list number i permits
@@ -132,6 +132,10 @@ LowestExactly =
     (file : List ℕ) (k : Criteria) (reading : Reading) → Reads file reading
     → ((i : ℕ) → i < noList → (lowestPermitting file k ≡ i) ↔ Lowest reading k i)
     × ((lowestPermitting file k ≡ noList) ↔ (SomePermits reading k → ⊥))
+
+-- the bytes of a signed list are those that are signed, and then the signature
+abbrev pub SignedUpToSignature : Type 0
+SignedUpToSignature = (l : PolicyList) (g : Signature) → l .signing ≡ Grammar.signed g → listBytes l ≡ signedBytes l g ++ g .signature
 
 -- of an element with the body of another type, only the type is judged: its size, its control and its body change nothing
 abbrev pub another : ℕ → ℕ → ℕ → List ℕ → Element

@@ -48,7 +48,7 @@ fn stm_digest(stm: &[u8], before: StmDigest) -> StmDigest
 
 // Whether the elements of t from `start` on permit, and the signature of their list verifies if it is signed. What takes longer is looked at later: the
 // signature where the elements permit but for their STM elements, and the STM image, which is hashed then, where the signature verifies.
-fn elements_permit(
+fn elements_and_signature(
     file: &[u8],
     l: ListAnswer,
     t: &[u8],
@@ -95,7 +95,7 @@ fn list_permits(
     }
     match policy_answers::elements_of(l) {
         PartAnswer::At { start, len } => {
-            elements_permit(file, l, &file[..start + len], start, stm, k, before)
+            elements_and_signature(file, l, &file[..start + len], start, stm, k, before)
         }
         PartAnswer::Absent => list_judged(false, before),
     }

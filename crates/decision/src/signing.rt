@@ -1,10 +1,9 @@
 // What a signed list needs besides its elements: a counter that is at least the record's, and a signature that verifies.
 use policy_answers::ListAnswer;
 ghost use mathlib.Core.Path.{_≡_};
-ghost use Prim.Native.Nat.{_-_};
-ghost use lib.ListN.{length, take};
 ghost use Rattle.policy_answers.specs.Seen.{seenList};
 ghost use Rattle.policy_record.specs.Record.{revocationCounter};
+ghost use Rattle.decision.specs.Lists.{withoutLast};
 ghost use Rattle.decision.specs.Inner.{reachedSeen, verifiedSeen};
 
 // Whether the counter of the list number i is at least the record's, where the list is signed.
@@ -22,7 +21,7 @@ pub(crate) fn counter_reached(record: &[u8], l: ListAnswer, i: u32) -> bool
 
 // The bytes but for the last n of them.
 fn without_last(b: &[u8], n: usize) -> &[u8]
-    ensures { λ r. ⌜ now r ≡ take (length (now (b .entry)) - n) (now (b .entry)) ⌝ }
+    ensures { λ r. ⌜ now r ≡ withoutLast n (now (b .entry)) ⌝ }
 {
     if b.len() < n {
         return &b[..0];

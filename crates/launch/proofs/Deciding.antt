@@ -13,11 +13,11 @@ use Rattle.rules.proofs.Tests.{_&_, fails}
 use Rattle.rules.proofs.Answers.{permits, rule-refuses, rule-passes, group-refuses, group-passes}
 use Rattle.mle.specs.Image.{imageDigest}
 use Rattle.policy_record.specs.declared.RecordAnswer.the-variants as records
-use Rattle.policy_record.specs.Record.{policyType, LIST, revocationCounter, recordRules}
+use Rattle.policy_record.specs.Record.{policyType, LIST, recordRules}
 use Rattle.decision.specs.Lists.{filePlaced, somePermits, lowestPermitting}
 use Rattle.answer.specs.Answer.{noList}
 use Rattle.policy_record.specs.Answers.{recordOf}
-use Rattle.decision.specs.Answers.{fileRules}
+use Rattle.decision.specs.Answers.{criteriaBy, fileRules}
 use Rattle.policy_record.proofs.RecordAnswers.{list-exactly, any-exactly, refusal-exactly}
 use Rattle.decision.proofs.Permission.{reported-exactly}
 use Rattle.launch.specs.declared.Found.{Found}
@@ -44,7 +44,7 @@ module _ (w file r stm : List ℕ) (f : Found) where
 
   -- by the digest and the list that were worked out
   module _ (d : List ℕ) (l : ℕ) (is-digest : d ≡ imageDigest w (f .image))
-      (is-list : l ≡ lowestPermitting file (record { digest = d; acmVersion = f .«acm_version»; stm = stm; counter = revocationCounter r })) (b : Bytes file) where
+      (is-list : l ≡ lowestPermitting file (criteriaBy d (f .«acm_version») stm r)) (b : Bytes file) where
     listed : l ≡ lowest
     listed = rw is-digest at is-list
 

@@ -15,8 +15,9 @@ use Rattle.pages.specs.Entry.{addressOf}
 use Rattle.pages.specs.Memory.{pageOf, windowOf, regions}
 use Rattle.pages.specs.Meaning.{Within, Apart, entry, Present}
 use Rattle.policy_grammar.specs.Grammar.{Reading, Makes}
-use Rattle.policy_record.specs.Record.{policyType, LIST, ANY, revocationCounter}
+use Rattle.policy_record.specs.Record.{policyType, LIST, ANY}
 use Rattle.answer.specs.Answer.{noList}
+use Rattle.decision.specs.Answers.{criteriaBy}
 use Rattle.decision.specs.Meaning.{SomePermits, Lowest}
 use Rattle.launch.specs.Rules.{Input, os, moduleData, memory, found, policyFile, criteria}
 use Rattle.launch.specs.Answer.{answerOf, placesOf}
@@ -35,10 +36,7 @@ module _ (i : Input) (places : List ℕ) where
   pub record LowestPermits : Type 0 where
     pub reading : Reading
     pub grammar : Makes reading (policyFile (i .window) (found i))
-    pub lowest :
-        Lowest reading
-        (record { digest = answerOf i .digest; acmVersion = moduleData i .«acm_version»; stm = i .stm; counter = revocationCounter (i .policyRecord) })
-        (answerOf i .list)
+    pub lowest : Lowest reading (criteriaBy (answerOf i .digest) (moduleData i .«acm_version») (i .stm) (i .policyRecord)) (answerOf i .list)
 
   pub record Permission : Type 0 where
     pub count : answerOf i .pages ≡ N i

@@ -19,9 +19,9 @@ use Rattle.pages.specs.Rules.{walkRules, endState}
 use Rattle.mle.specs.declared.Image.{Image}
 use Rattle.mle.specs.Image.{imageDigest}
 use Rattle.mle.specs.Header.{pagesOf, sizeTests, headerTests}
-use Rattle.policy_record.specs.Record.{policyType, LIST, revocationCounter, recordRules}
+use Rattle.policy_record.specs.Record.{policyType, LIST, recordRules}
 use Rattle.decision.specs.Lists.{Criteria, filePlaced, fileOf, somePermits}
-use Rattle.decision.specs.Answers.{fileRules}
+use Rattle.decision.specs.Answers.{criteriaBy, fileRules}
 use Rattle.launch.specs.declared.Platform.{Platform}
 use Rattle.launch.specs.declared.Found.{Found}
 
@@ -155,8 +155,7 @@ abbrev pub policyFile : List ℕ → Found → List ℕ
 policyFile window f = fileOf window (f .«window_base») (f .«policy_file» .base) (f .«policy_file» .size)
 
 abbrev pub criteria : List ℕ → List ℕ → List ℕ → Found → Criteria
-criteria window policyRecord stm f =
-    record { digest = imageDigest window (f .image); acmVersion = f .«acm_version»; stm = stm; counter = revocationCounter policyRecord }
+criteria window policyRecord stm f = criteriaBy (imageDigest window (f .image)) (f .«acm_version») stm policyRecord
 
 -- 26 to 29
 abbrev pub listRules : List ℕ → List ℕ → List ℕ → Found → List Rule

@@ -37,7 +37,7 @@ ANY = 1
 abbrev pub sinitMinVersion : List ℕ → ℕ
 sinitMinVersion r = numberAt r 5 1
 
--- that of the list number i
+-- that of the list number i; there are eight, and no file has a ninth list
 abbrev pub revocationCounter : List ℕ → ℕ → ℕ
 revocationCounter r i = numberAt r (6 + 2 * i) 2
 

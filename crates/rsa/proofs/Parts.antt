@@ -8,21 +8,21 @@ use borrow.Author.Tests.{eq-eqb, ne-eqb, eqb-true}
 use lib.Dec.{eqb}
 use lib.ListN.{length, take, drop, length-append}
 use lib.Seq.{length-take-le, take-at}
-use Rattle.rsa.specs.Rsa.{os2ip, keySize}
-use Rattle.rsa.specs.Inner.{littleEndian, encoded}
+use Rattle.rsa.specs.Rsa.{os2ip, isKeySize}
+use Rattle.rsa.specs.Inner.{littleEndian, encodedDigest}
 use Rattle.rsa.proofs.Numerals.{little-reverse}
 
-pub key-first : (k : ℕ) → k ≡ 256 → true ≡ keySize k
-unfolding keySize
+pub key-first : (k : ℕ) → k ≡ 256 → true ≡ isKeySize k
+unfolding isKeySize
 key-first k e = rw (eq-eqb k 256 e)
 
-pub key-second : (k : ℕ) → (k ≡ 256 → ⊥) → eqb k 384 ≡ keySize k
-unfolding keySize
+pub key-second : (k : ℕ) → (k ≡ 256 → ⊥) → eqb k 384 ≡ isKeySize k
+unfolding isKeySize
 key-second k n = rw (ne-eqb k 256 n)
 
 -- a known length in bytes is one of two
-pub key-room : (k : ℕ) → keySize k ≡ true → (k / 4 * 4 ≡ k) × ((54 ≤ k) × (k ≤ 384))
-unfolding keySize
+pub key-room : (k : ℕ) → isKeySize k ≡ true → (k / 4 * 4 ≡ k) × ((54 ≤ k) × (k ≤ 384))
+unfolding isKeySize
 key-room k e = by (eqb k 256) (eqb k 384) refl refl e
   where
     by : (a b : Bool) → eqb k 256 ≡ a → eqb k 384 ≡ b → (a || b) ≡ true → (k / 4 * 4 ≡ k) × ((54 ≤ k) × (k ≤ 384))
@@ -30,7 +30,7 @@ key-room k e = by (eqb k 256) (eqb k 384) refl refl e
     by false true f g e = let h : k ≡ 384 = eqb-true k 384 g in (omega arith, (omega arith, omega arith))
     by false false f g e = absurd (false≢true e)
 
-module _ (k : ℕ) (known : keySize k ≡ true) where
+module _ (k : ℕ) (known : isKeySize k ≡ true) where
   pub part-within : (l : List ℕ) → 96 ≤ length l → k / 4 ≤ length l
   part-within l h = omega (arith, key-room k known .1 .1)
 
@@ -64,6 +64,6 @@ module _ (k : ℕ) (known : keySize k ≡ true) where
       pub back-aggregate : k ≡ length (take k (last ++ drop k em))
       back-aggregate = sym back-length
 
-      pub message-number : (digest : List ℕ) → last ≡ reverse (encoded (length (take k em)) digest) → littleEndian (take k (last ++ drop k em)) ≡ os2ip (encoded k digest)
+      pub message-number : (digest : List ℕ) → last ≡ reverse (encodedDigest (length (take k em)) digest) → littleEndian (take k (last ++ drop k em)) ≡ os2ip (encodedDigest k digest)
       message-number digest e =
-          ap littleEndian (front-back ∙ e) ∙ little-reverse (encoded (length (take k em)) digest) ∙ ap (λ (n : ℕ). os2ip (encoded n digest)) front-length
+          ap littleEndian (front-back ∙ e) ∙ little-reverse (encodedDigest (length (take k em)) digest) ∙ ap (λ (n : ℕ). os2ip (encodedDigest n digest)) front-length

@@ -1,21 +1,21 @@
 -- What the contracts of functions cite that are not public: a string with the lowest byte first as a number, the encoded message of a digest,
 -- the comparison of the numbers, and the lengths of the strings and the words.
-use Prim.Native.Nat.{ℕ, _%_, _≤_, _<_}
+use Prim.Native.Nat.{ℕ, _*_, _%_, _≤_, _<_}
 use mathlib.Core.Path.{_≡_}
 use mathlib.Core.Bool.{Bool, true, _&&_}
 use mathlib.Core.List.{List, _++_}
 use lib.Dec.{ltb, eqb}
 use lib.ListN.{length}
 use Rattle.field.specs.Number.{number}
-use Rattle.rsa.specs.Rsa.{rsavp1, digestInfo, encodedOf, keySize}
+use Rattle.rsa.specs.Rsa.{rsavp1, digestInfoPrefix, encoded, isKeySize}
 
 -- the number of a string with the lowest byte first
 abbrev pub littleEndian : List ℕ → ℕ
 littleEndian s = number (length s) s
 
 -- the encoded message of k bytes for the digest h
-unfoldable pub encoded : ℕ → List ℕ → List ℕ
-encoded k h = encodedOf (digestInfo ++ h) k
+unfoldable pub encodedDigest : ℕ → List ℕ → List ℕ
+encodedDigest k h = encoded (digestInfoPrefix ++ h) k
 
 -- a modulus n, a signature s and an encoded message m, as numbers: n is odd, s is below n, and s^65537 modulo n is m
 unfoldable pub matches : ℕ → ℕ → ℕ → Bool
@@ -29,9 +29,15 @@ pub record Room (n s m x y : ℕ) : Type 0 where
   pub first : x ≡ n
   pub second : y ≡ n
 
+-- strings of four bytes a word
+pub record FourBytes (words key signature message : ℕ) : Type 0 where
+  pub modulus : key ≡ 4 * words
+  pub number : signature ≡ 4 * words
+  pub encoding : message ≡ 4 * words
+
 -- the lengths in bytes of a key, a signature and a digest
 pub record Lengths (key signature digest : ℕ) : Type 0 where
-  pub known : keySize key ≡ true
+  pub known : isKeySize key ≡ true
   pub same : signature ≡ key
   pub hash : digest ≡ 32
 

@@ -3,3 +3,4 @@ pub mod Rsa
 pub mod Words
 pub mod Montgomery
 pub mod Inner
+pub mod Meaning

@@ -7,8 +7,8 @@ ghost use mathlib.Core.Path.{_≡_};
 ghost use Prim.Native.Nat.{_*_, _≤_};
 ghost use lib.ListN.{length};
 ghost use Rattle.rsa.specs.Words.{value, power};
-ghost use Rattle.rsa.specs.Rsa.{os2ip, verifies, keySize};
-ghost use Rattle.rsa.specs.Inner.{littleEndian, encoded, matches, Room, Lengths, Scratch};
+ghost use Rattle.rsa.specs.Rsa.{os2ip, verifies, isKeySize};
+ghost use Rattle.rsa.specs.Inner.{littleEndian, encodedDigest, matches, Room, FourBytes, Lengths, Scratch};
 
 // The sizes of a key in bytes, and how many words the larger one takes.
 const KEY_2048: usize = 256;
@@ -19,7 +19,7 @@ const MOST_WORDS: usize = KEY_3072 / 4;
 
 // Whether a key may have so many bytes.
 fn known_length(k: usize) -> bool
-    ensures { λ r. ⌜ r ≡ keySize k ⌝ }
+    ensures { λ r. ⌜ r ≡ isKeySize k ⌝ }
 {
     if k == KEY_2048 {
         return true;
@@ -30,7 +30,8 @@ fn known_length(k: usize) -> bool
 // Whether n is odd, s is below n, and s^65537 modulo n is m. No remainder is m where m is not below n. An encoded message m is at least
 // 2^(32 * l - 16), l the length in words, and so is an n above it, which `raise` asks for. The words x and y are scratch.
 fn matching(n: &[u32], s: &[u32], m: &[u32], x: &mut [u32], y: &mut [u32]) -> bool
-    requires { ⌜ Room (length (now n)) (length (now s)) (length (now m)) (length (now x)) (length (now y)) × (power (length (now n)) ≤ 65536 * value (now m)) ⌝ }
+    requires room { ⌜ Room (length (now n)) (length (now s)) (length (now m)) (length (now x)) (length (now y)) ⌝ }
+    requires large { ⌜ power (length (now n)) ≤ 65536 * value (now m) ⌝ }
     ensures { λ r. ⌜ r ≡ matches (value (now (n .entry))) (value (now (s .entry))) (value (now (m .entry))) ⌝ }
 {
     if n[0] % 2 == 0 {
@@ -57,7 +58,9 @@ fn loaded(
     x: &mut [u32],
     y: &mut [u32],
 ) -> bool
-    requires { ⌜ Room (length (now n)) (length (now s)) (length (now m)) (length (now x)) (length (now y)) × ((length (now key) ≡ 4 * length (now n)) × ((length (now signature) ≡ 4 * length (now n)) × ((length (now em) ≡ 4 * length (now n)) × (power (length (now n)) ≤ 65536 * littleEndian (now em))))) ⌝ }
+    requires room { ⌜ Room (length (now n)) (length (now s)) (length (now m)) (length (now x)) (length (now y)) ⌝ }
+    requires bytes { ⌜ FourBytes (length (now n)) (length (now key)) (length (now signature)) (length (now em)) ⌝ }
+    requires large { ⌜ power (length (now n)) ≤ 65536 * littleEndian (now em) ⌝ }
     ensures { λ r. ⌜ r ≡ matches (littleEndian (now (key .entry))) (littleEndian (now (signature .entry))) (littleEndian (now (em .entry))) ⌝ }
 {
     words::load(n, key);
@@ -80,7 +83,7 @@ fn checked(
 ) -> bool
     requires lengths { ⌜ Lengths (length (now key)) (length (now signature)) (length (now digest)) ⌝ }
     requires scratch { ⌜ Scratch (length (now em)) (length (now n)) (length (now s)) (length (now m)) (length (now x)) (length (now y)) ⌝ }
-    ensures { λ r. ⌜ r ≡ matches (littleEndian (now (key .entry))) (littleEndian (now (signature .entry))) (os2ip (encoded (length (now (key .entry))) (now (digest .entry)))) ⌝ }
+    ensures { λ r. ⌜ r ≡ matches (littleEndian (now (key .entry))) (littleEndian (now (signature .entry))) (os2ip (encodedDigest (length (now (key .entry))) (now (digest .entry)))) ⌝ }
 {
     let k = key.len();
     let l = k / 4;

@@ -3,7 +3,7 @@ ghost use mathlib.Core.Path.{_≡_};
 ghost use mathlib.Core.List.{reverse};
 ghost use Prim.Native.Nat.{_≤_, _<_};
 ghost use lib.ListN.{length, getD};
-ghost use Rattle.rsa.specs.Inner.{encoded};
+ghost use Rattle.rsa.specs.Inner.{encodedDigest};
 
 // The DER encoding of DigestInfo for SHA-256 up to the digest (note 1).
 const DIGEST_INFO: [u8; 19] = [
@@ -28,10 +28,17 @@ const DIGEST_INFO: [u8; 19] = [
     0x20,
 ];
 
+// How many bytes of the encoded message there are from the zero before T on, from T on, and in the digest, which ends it.
+const FROM_ZERO: usize = 52;
+
+const FROM_T: usize = 51;
+
+const DIGEST: usize = 32;
+
 // Byte i of the encoded message of k bytes.
 fn byte(digest: &[u8], k: usize, i: usize) -> u8
     requires { ⌜ (length (now digest) ≡ 32) × ((54 ≤ k) × (i < k)) ⌝ }
-    ensures { λ r. ⌜ r ≡ getD (encoded k (now (digest .entry))) i 0 ⌝ }
+    ensures { λ r. ⌜ r ≡ getD (encodedDigest k (now (digest .entry))) i 0 ⌝ }
 {
     if i == 0 {
         return 0;
@@ -39,22 +46,22 @@ fn byte(digest: &[u8], k: usize, i: usize) -> u8
     if i == 1 {
         return 1;
     }
-    if i < k - 52 {
+    if i < k - FROM_ZERO {
         return 255;
     }
-    if i == k - 52 {
+    if i == k - FROM_ZERO {
         return 0;
     }
-    if i < k - 32 {
-        return DIGEST_INFO[i - (k - 51)];
+    if i < k - DIGEST {
+        return DIGEST_INFO[i - (k - FROM_T)];
     }
-    digest[i - (k - 32)]
+    digest[i - (k - DIGEST)]
 }
 
 // The encoded message, its last byte first.
 pub(crate) fn encode(em: &mut [u8], digest: &[u8])
     requires { ⌜ (length (now digest) ≡ 32) × (54 ≤ length (now em)) ⌝ }
-    ensures { λ _. ⌜ now (em .exit) ≡ reverse (encoded (length (now (em .entry))) (now (digest .entry))) ⌝ }
+    ensures { λ _. ⌜ now (em .exit) ≡ reverse (encodedDigest (length (now (em .entry))) (now (digest .entry))) ⌝ }
 {
     let k = em.len();
     let mut i = 0;

@@ -12,6 +12,7 @@ ghost use mathlib.Core.Path.{_≡_};
 ghost use Prim.Native.Nat.{ℕ, _+_, _*_, _%_, _^_, _<_};
 ghost use lib.ListN.{length};
 ghost use Rattle.rsa.specs.Words.{value};
+ghost use Rattle.rsa.specs.Rsa.{rsavp1};
 ghost use Rattle.rsa.specs.Montgomery.{radix, extended, Operands, Stepped, Product, Fourth, Lifted, Base};
 
 // A step of Newton's iteration: n * r + 1 becomes its square, modulo 2^32.
@@ -121,7 +122,7 @@ fn square_radix(x: &mut [u32], y: &mut [u32], n: &[u32], r: u32)
 // s^65537 modulo n in y: sixteen squares of R * s, and the product with s.
 pub(crate) fn raise(y: &mut [u32], x: &mut [u32], s: &[u32], n: &[u32])
     requires { ⌜ Base (now y) (now x) (now s) (now n) ⌝ }
-    ensures { λ _. ⌜ value (now (y .exit)) ≡ value (now (s .entry)) ^ 65537 % value (now (n .entry)) ⌝ }
+    ensures { λ _. ⌜ value (now (y .exit)) ≡ rsavp1 (value (now (n .entry))) (value (now (s .entry))) ⌝ }
 {
     let r = inverse(n[0]);
     square_radix(y, x, n, r);

@@ -6,6 +6,11 @@ ghost use lib.ListN.{length, getD};
 ghost use Rattle.rsa.specs.Words.{value, power};
 ghost use Rattle.rsa.specs.Inner.{littleEndian};
 
+// The first number that a word does not hold, and the greatest that it does.
+const RADIX: u64 = 4294967296;
+
+const MOST: u32 = 4294967295;
+
 fn wide(x: u32) -> u64
     ensures { λ r. ⌜ r ≡ x ⌝ }
 {
@@ -15,13 +20,13 @@ fn wide(x: u32) -> u64
 pub(crate) fn low(x: u64) -> u32
     ensures { λ r. ⌜ r ≡ x % 2 ^ 32 ⌝ }
 {
-    (x % 4294967296) as u32
+    (x % RADIX) as u32
 }
 
 pub(crate) fn high(x: u64) -> u32
     ensures { λ r. ⌜ r ≡ x / 2 ^ 32 ⌝ }
 {
-    (x / 4294967296) as u32
+    (x / RADIX) as u32
 }
 
 // x * y + t + c, which two words hold.
@@ -70,7 +75,7 @@ pub(crate) fn subtract(t: &mut [u32], n: &[u32]) -> u32
     let mut c: u32 = 1;
     let mut j = 0;
     while j < t.len() {
-        let sum = accumulated(1, t[j], 4294967295 - n[j], c);
+        let sum = accumulated(1, t[j], MOST - n[j], c);
         t[j] = low(sum);
         c = high(sum);
         j += 1;

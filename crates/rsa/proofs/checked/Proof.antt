@@ -79,15 +79,13 @@ loaded-requires c κs =
         second = part (now (s .args .y)) (s .pre .1 .second) ∙ sym n;
       },
       (
-        omega (arith, n, room .0),
-        (
-          omega (arith, n, room .0, s .pre .0 .same),
-          (
-            omega (arith, n, room .0, back-length k (s .pre .0 .known) em (s .pre .1 .bytes) (e .last .0) (e .kept .0)),
-            rw (n, message-number k (s .pre .0 .known) em (s .pre .1 .bytes) (e .last .0) (e .kept .0) digest (e .ensures))
-                (encoded-large k digest (s .pre .0 .hash) (room .1 .0) (omega (arith, room .0))),
-          ),
-        ),
+        record {
+          modulus = omega (arith, n, room .0);
+          number = omega (arith, n, room .0, s .pre .0 .same);
+          encoding = omega (arith, n, room .0, back-length k (s .pre .0 .known) em (s .pre .1 .bytes) (e .last .0) (e .kept .0));
+        },
+        rw (n, message-number k (s .pre .0 .known) em (s .pre .1 .bytes) (e .last .0) (e .kept .0) digest (e .ensures))
+            (encoded-large k digest (s .pre .0 .hash) (room .1 .0) (omega (arith, room .0))),
       ),
     )
 

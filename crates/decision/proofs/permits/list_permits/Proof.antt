@@ -25,22 +25,22 @@ elements-of-requires c κs = search needs
 enum-known-start : tie.Need-enum-known-start
 enum-known-start c = search needs
 
-add-elements-permit : tie.Need-add-elements-permit
-add-elements-permit c =
+add-elements-and-signature : tie.Need-add-elements-and-signature
+add-elements-and-signature c =
     let s = c .before .before .before .before .before .before .before .before .before in
     let p = s .pre .0 in
     let u = listed _ _ (p .0) (p .1) _ _ (sym (c .before .before .before .elements-of .ensures) ∙ c .before .start .given .1) in
     omega (arith, u .within)
 
-slice-aggregate-elements-permit : tie.Need-slice-aggregate-elements-permit
-slice-aggregate-elements-permit c =
+slice-aggregate-elements-and-signature : tie.Need-slice-aggregate-elements-and-signature
+slice-aggregate-elements-and-signature c =
     let s = c .before .before .before .before .before .before .before .before .before .before in
     let p = s .pre .0 in
     let u = listed _ _ (p .0) (p .1) _ _ (sym (c .before .before .before .before .elements-of .ensures) ∙ c .before .before .start .given .1) in
     sym (length-take-le _ _ (u .within))
 
-elements-permit-requires : tie.Need-elements-permit-requires
-elements-permit-requires c κs =
+elements-and-signature-requires : tie.Need-elements-and-signature-requires
+elements-and-signature-requires c κs =
     let s = c .before .before .before .before .before .before .before .before .before .before in
     let p = s .pre .0 in
     let u = listed _ _ (p .0) (p .1) _ _ (sym (c .before .before .before .before .elements-of .ensures) ∙ c .before .before .start .given .1) in
@@ -57,8 +57,8 @@ returns-2 c = (
   λ x stands.
       let u = listed _ _ x stands _ _ (sym (c .before .before .before .before .before .elements-of .ensures) ∙ c .before .before .before .start .given .1) in
       counter-reached _ _ x stands _ _ _ (c .before .before .before .before .before .before .before .counter-reached .ensures) (not-false _ (c .before .before .before .before .before .before .if1 .left)) _
-      (c .elements-permit .ensures .0 (x .elements) _ (u .elements)),
-  c .elements-permit .ensures .1,
+      (c .elements-and-signature .ensures .0 (x .elements) _ (u .elements)),
+  c .elements-and-signature .ensures .1,
 )
 
 returns-3 : tie.Need-returns-3
@@ -75,9 +75,9 @@ list-permits-spec =
     returns
     elements-of-requires
     enum-known-start
-    add-elements-permit
-    slice-aggregate-elements-permit
-    elements-permit-requires
+    add-elements-and-signature
+    slice-aggregate-elements-and-signature
+    elements-and-signature-requires
     enum-told
     list-judged-requires-2
     returns-2

@@ -4,7 +4,7 @@ use mathlib.Core.Path.{_≡_, refl, sym, _∙_}
 use native.Mathlib.Omega.{arith}
 use denote.Ref.{now}
 use lib.ListN.{length, take, length-set}
-use Rattle.rsa.specs.Inner.{encoded}
+use Rattle.rsa.specs.Inner.{encodedDigest}
 use mathlib.Core.List.{reverse}
 use Rattle.rsa.proofs.Encoding.{length-encoded}
 use Rattle.rsa.proofs.Backwards.{backwards-next, backwards-end}
@@ -13,7 +13,7 @@ use Rattle.rsa.proofs.message.encode.Statement.{statement}
 use Rattle.rsa.proofs.message.encode.Tie as tie
 
 abbrev Inv-loop : tie.InvT-loop
-Inv-loop em₀ digest k i₀ em i = (i ≤ k) × ((length em ≡ k) × (take i em ≡ take i (reverse (encoded k digest))))
+Inv-loop em₀ digest k i₀ em i = (i ≤ k) × ((length em ≡ k) × (take i em ≡ take i (reverse (encodedDigest k digest))))
 
 abbrev μ-loop : tie.MeasureT-loop
 μ-loop em₀ digest k i₀ em i = k - i
@@ -44,7 +44,7 @@ loop-again c =
     let s = c .before .before .before .before .before in
     let b = c .before .before .loop in
     let k : ℕ = length (now (s .args .em)) in
-    let l = encoded k (now (s .args .digest)) in
+    let l = encodedDigest k (now (s .args .digest)) in
     let e : length l ≡ k = length-encoded k (now (s .args .digest)) (s .pre .0) (s .pre .1) in (
       omega arith,
       (
@@ -61,8 +61,8 @@ returns c =
     let s = c .before .before .before .before in
     let b = c .before .loop in
     let k : ℕ = length (now (s .args .em)) in
-    let e : length (encoded k (now (s .args .digest))) ≡ k = length-encoded k (now (s .args .digest)) (s .pre .0) (s .pre .1) in
-    backwards-end (encoded k (now (s .args .digest))) (b .em) (b .i) (omega arith) (b .inv .1 .0 ∙ sym e) (b .inv .1 .1)
+    let e : length (encodedDigest k (now (s .args .digest))) ≡ k = length-encoded k (now (s .args .digest)) (s .pre .0) (s .pre .1) in
+    backwards-end (encodedDigest k (now (s .args .digest))) (b .em) (b .i) (omega arith) (b .inv .1 .0 ∙ sym e) (b .inv .1 .1)
 
 pub encode-spec : {M : Type 1} → statement M
 encode-spec =

@@ -1,12 +1,13 @@
--- `elements_permit` meets its contract: by what the elements say, the signature and the STM image.
+-- `elements_and_signature` meets its contract: by what the elements say, the signature and the STM image.
 use mathlib.Core.Path.{sym, _∙_}
 use borrow.Author.Tests.{not-true, not-false}
 use Rattle.decision.specs.Lists.{elementsPermit}
 use Rattle.decision.specs.Answers.{criteriaOf}
-use Rattle.decision.proofs.Judging.{do-not-permit, do-permit, no-image, by-digest, elements-refuse, signature-refuses, signature-decides, elements-decide}
+use Rattle.decision.proofs.Judging.{do-not-permit, do-permit, no-image, by-digest}
+use Rattle.decision.proofs.ListAnswers.{elements-refuse, signature-refuses, signature-decides, elements-decide}
 use borrow.Author.Needs.{needs}
-use Rattle.decision.proofs.permits.elements_permit.Statement.{statement}
-use Rattle.decision.proofs.permits.elements_permit.Tie as tie
+use Rattle.decision.proofs.permits.elements_and_signature.Statement.{statement}
+use Rattle.decision.proofs.permits.elements_and_signature.Tie as tie
 
 elements-judged-requires : tie.Need-elements-judged-requires
 elements-judged-requires c κs = c .before .before .before .pre .0
@@ -82,8 +83,8 @@ returns-5 c =
       λ e. known .1,
     )
 
-pub elements-permit-spec : {M : Type 1} → statement M
-elements-permit-spec =
+pub elements-and-signature-spec : {M : Type 1} → statement M
+elements-and-signature-spec =
     tie.close
     (tie.spec
     elements-judged-requires

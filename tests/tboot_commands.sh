@@ -133,7 +133,8 @@ bash -euc "$again"
 "$bleiwurzel" policy policy.data | grep -q "hashes\[0\]: $stm_digest" || fail "tboot's STM element does not name the STM image"
 expect sinit.bin "refused 29" "a list for another STM image" --stm sinit.bin
 
-# What the page says of signed lists: signed with a lower counter, changed, signed with another hash, signed with a key of 3,072 bits.
+# What the page says of signed lists: signed with a lower counter, also under a record that asks for none, changed, signed with another hash, signed
+# with a key of 3,072 bits.
 sign=$(commands "lcp2_crtpollist --sign")
 asking=$(filled "$(commands lcp2_crtpol | grep -- '--rev')")
 
@@ -157,6 +158,10 @@ signed "a greater counter" yes permitted --rev $((counter + 1))
 signed "a lower counter" yes "refused 29" --rev $((counter - 1))
 check sinit.bin | tr -s '\n ' '  ' | grep -qF "$low" || fail "the tool does not say: $low"
 mv record.pol before.pol
+bash -euc "$asking --minver 255"
+judged "the same, and a SINITMinVersion above the AcmVersion" yes "refused 25"
+bash -euc "$again"
+judged "a lower counter under a record made without --rev and --minver" yes permitted
 bash -euc "$(filled "$sign")"
 bash -euc "$asking"
 judged "the same list, signed again" yes permitted

@@ -88,6 +88,14 @@ macro_rules! make_policy {
     };
 }
 
+/// Of a record that is made anew: `lcp2_crtpol` takes nothing over from the old one. The text of 29 says more.
+macro_rules! asks_again {
+    () => {
+        "Give a new record its SINITMinVersion and counters with `--minver` and `--rev`: without these it asks for 0, and older modules and \
+         signed lists pass (29)."
+    };
+}
+
 /// Makes a policy list of a launch element, and of more.
 macro_rules! make_list {
     ($($more:literal)?) => {
@@ -507,7 +515,7 @@ pub static TEXTS: [Text; 30] = [
              record, and have it written into the TPM before the restart.",
         ],
         builder: &[
-            concat!("Make the record and its policy file anew: ", make_policy!(), "."),
+            concat!("Make the record and its policy file anew: ", make_policy!(), ". ", asks_again!()),
             concat!("For a policy of type ANY: `lcp2_crtpol --create --type any ", record!(), "`."),
         ],
     },
@@ -524,7 +532,12 @@ pub static TEXTS: [Text; 30] = [
         technician: &["Replace the module by the vendor's production module. Do not loosen the policy to get the host up."],
         builder: &[
             "Ship production modules.",
-            concat!("On test hosts only, set control bit 1 and provision the record anew: ", make_policy!("--ctrl 0x02"), "."),
+            concat!(
+                "On test hosts only, set control bit 1 and provision the record anew: ",
+                make_policy!("--ctrl 0x02"),
+                ". ",
+                asks_again!()
+            ),
         ],
     },
     Text {
@@ -537,7 +550,10 @@ pub static TEXTS: [Text; 30] = [
         ),
         causes: &["The policy was raised after a security update, and the image still carries the old module."],
         technician: &["Look whether the store has a newer SINIT module for this chipset; the policy asks for the version shown."],
-        builder: &["Ship a module with at least this AcmVersion, or lower SINITMinVersion in the record if it was raised by mistake."],
+        builder: &[concat!(
+            "Ship a module with at least this AcmVersion, or lower SINITMinVersion in the record if it was raised by mistake. ",
+            asks_again!()
+        )],
     },
     Text {
         number: 26,
@@ -583,7 +599,7 @@ pub static TEXTS: [Text; 30] = [
         ],
         builder: &[
             concat!("Make a list of version 0x200 or 0x201, unsigned or signed with RSASSA and 2,048 or 3,072 bits: ", make_list!(), "."),
-            concat!("Then make the file of it: ", make_policy!(), "."),
+            concat!("Then make the file of it, and its record: ", make_policy!(), ". ", asks_again!()),
             "In an element that tboot's tools did not make, HashAlg stands at offset 14 if the type is 0x10 and at 12 if it is 0x14, and the digests \
              fill the element up to its end.",
             "Have the loader write the file's exact size, not rounded to pages.",
@@ -605,7 +621,7 @@ pub static TEXTS: [Text; 30] = [
             "Take record and policy file from the same release; compare the two hashes that the tool shows with the release notes.",
             "Read the record from this host's TPM again; if it is the old one, it must be provisioned anew.",
         ],
-        builder: &[concat!("Make record and file in one run, and roll out both: ", make_policy!(), ".")],
+        builder: &[concat!("Make record and file in one run, and roll out both: ", make_policy!(), ". ", asks_again!())],
     },
     Text {
         number: 29,
@@ -637,8 +653,8 @@ pub static TEXTS: [Text; 30] = [
              policy are of different releases.",
             "If it is among them, look at the reasons that the tool gives for each list: another type (0x13 is tboot's `custom`), another \
              algorithm, SINITMinVersion, the STM image, the counter, the signature.",
-            "If a counter is too low, the policy file is older than the record asks: load the newest one from the store. The record refuses older \
-             lists on purpose, so do not lower its counter.",
+            "If a counter is too low, load the newest policy file from the store. If its counter is too low as well, hand the list's number and both \
+             counters to the builder. The record refuses older lists on purpose, so do not lower its counter.",
             "If a signature does not verify, run `bleiwurzel policy FILE` on the policy file from the store, which says it of every signed list and \
              needs no record. If it verifies there, load that file again; else hand the list's number to the builder.",
             "If an STM image is missing and the host has an STM, hand it over: `bleiwurzel check --stm FILE ..`. If the host has none, it needs a policy \
@@ -664,13 +680,19 @@ pub static TEXTS: [Text; 30] = [
             "Sign the finished list, with the counter that the record asks for or a greater one: `lcp2_crtpollist --sign --sigalg rsa --pub public.pem --priv \
              key.pem --rev COUNTER --out policy.lst`. After any change, of the counter too, sign it again. Leave out `--hashalg`: only SHA-256 \
              verifies here.",
-            concat!("Then make policy file and record anew, since PolicyHash changes: ", make_policy!(), "."),
+            concat!(
+                "Then make policy file and record anew, since PolicyHash changes: ",
+                make_policy!(),
+                ". If the old record asks for counters (16 bits a list from offset 6 on), give them again with `--rev`: without it the new record \
+                 asks for 0, and older signed lists permit again. The same holds of SINITMinVersion (8 bits at 5), `--minver` and older modules."
+            ),
             concat!(
                 "If older signed lists must no longer permit, have the record ask for the new counter: ",
                 make_policy!("--rev COUNTER"),
                 ". With several lists, give one counter for each in their order, with commas between, and any number for an unsigned one."
             ),
-            "A list that is signed again with the same key leaves PolicyHash as it was: then only the policy file is rolled out.",
+            "A list that is signed again with the same key leaves PolicyHash as it was: if no other list of the file changes, and the record's \
+             counters stay, only the policy file is rolled out.",
         ],
     },
     Text {

@@ -54,6 +54,16 @@ fn split(bytes: &[u8]) -> (Parts<'_>, Platform, usize) {
     (parts, platform, places)
 }
 
+/// Holds the answer for these parts to what is printed of it, and looks at the page list and at the finding.
+fn hold(name: &str, parts: &Parts<'_>, platform: &Platform, places: usize, expected: &str) {
+    let mut pages = vec![UNTOUCHED; places];
+    let given = answer(parts, platform, &mut pages);
+    assert_eq!(printed(&given, &pages), expected, "{name}");
+    assert!(pages[given.pages as usize..].iter().all(|page| *page == UNTOUCHED), "{name}: a place past the pages was written");
+    let found = finding::first(parts, platform, places);
+    assert_eq!(found.map_or(0, |finding| finding.number), given.number, "{name}: the finding's number");
+}
+
 #[test]
 fn every_case_has_its_output() {
     let expected = outputs(&folder().join("expected.tsv"));
@@ -67,14 +77,19 @@ fn every_case_has_its_output() {
         let bytes = std::fs::read(folder().join(&name)).expect("a case");
         let (parts, platform, places) = split(&bytes);
         assert!(!parts.stm.is_empty(), "{name} has an STM image");
-        let mut pages = vec![UNTOUCHED; places];
-        let given = answer(&parts, &platform, &mut pages);
-        assert_eq!(printed(&given, &pages), expected[&name], "{name}");
-        assert!(
-            pages[given.pages as usize..].iter().all(|page| *page == UNTOUCHED),
-            "{name}: a place past the pages was written"
-        );
-        let found = finding::first(&parts, &platform, places);
-        assert_eq!(found.map_or(0, |finding| finding.number), given.number, "{name}: the finding's number");
+        hold(&name, &parts, &platform, places, &expected[&name]);
+    }
+}
+
+/// A signature that verifies does not stand in for the STM image: the signed list that permits with its own refuses without one and with another.
+#[test]
+fn a_signed_list_needs_its_stm_image() {
+    let bytes = std::fs::read(folder().join("29-stm-signed-match.case")).expect("a case");
+    let (parts, platform, places) = split(&bytes);
+    let mut other = parts.stm.to_vec();
+    other[0] ^= 1;
+    let shorter = &parts.stm[..parts.stm.len() - 1];
+    for (name, stm) in [("no STM image", &[][..]), ("another first byte", &other), ("a byte less", shorter)] {
+        hold(name, &Parts { stm, ..parts }, &platform, places, "refused 29\n");
     }
 }

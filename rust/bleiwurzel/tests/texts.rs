@@ -151,6 +151,19 @@ fn what_is_said_of_signed_lists() {
     }
 }
 
+/// A record that is made without `--rev` and `--minver` lifts what the old one revoked, so whoever makes one is told to give them.
+#[test]
+fn no_new_record_lifts_a_revocation_unsaid() {
+    let makes = |point: &&&str| point.contains("`lcp2_crtpol --create --type list ") && !point.contains(" --rev COUNTER ");
+    let points: Vec<&&str> = TEXTS.iter().flat_map(|text| text.builder).filter(makes).collect();
+    assert_eq!(points.len(), 5, "{points:#?}");
+    for point in points {
+        for flag in ["`--rev`", "`--minver`"] {
+            assert!(point.contains(flag), "{flag} is not said: {point}");
+        }
+    }
+}
+
 #[test]
 fn the_header_has_the_same_numbers_and_sentences() {
     let header = read("include/bleiwurzel.h");

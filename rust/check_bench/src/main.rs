@@ -1,5 +1,7 @@
 //! Times the whole check of an image of two pages with the longest STM image. Where no list that could permit holds an STM element, against the
-//! same check without an STM image; where lists do, against the digest of the STM image. The two sides take turns in one process.
+//! same check without an STM image; where lists do, against the digest of the STM image. Then the check with signed lists that name another image,
+//! against the same lists unsigned: no signature of theirs is verified, which takes several times as long as all else. The two sides take turns
+//! in one process.
 //!
 //! With `--at-most R` it fails where the check takes more than R times as long as the other side. For that the median of the ratios of
 //! neighbouring runs counts, which another program on the machine changes least.
@@ -87,6 +89,29 @@ fn asking(stm_image: &[u8]) -> Case {
     Case { name: "eight lists with STM elements", image: with_lists(&any, &lists), list: 7 }
 }
 
+/// A list with a signature that is worth verifying, though it does not verify: the modulus is odd, and the signature is below it.
+fn verifiable(elements: &[Vec<u8>]) -> Vec<u8> {
+    let mut list = SignedList(signed(elements, 384));
+    let (key, signature) = (list.key_range(), list.signature_range());
+    list.0[key.start] |= 1;
+    list.0[key.end - 1] |= 128;
+    list.0[signature.end - 1] &= 127;
+    list.0
+}
+
+/// Seven lists that name other images and an unsigned one that permits: the seven signed, and unsigned. Eleven digests make an unsigned list about
+/// as long as a key, so that as much is hashed for PolicyHash on both sides.
+fn naming_others() -> [Case; 2] {
+    let any = image(&Shape::default());
+    let others = [launch(0, &[[1; 32]; 11])];
+    let case = |name, other| {
+        let mut lists = vec![other; 7];
+        lists.push(list(&[naming(&any)]));
+        Case { name, image: with_lists(&any, &lists), list: 7 }
+    };
+    [case("seven signed lists that name other images", verifiable(&others)), case("the same unsigned", list(&others))]
+}
+
 fn main() {
     let words: Vec<String> = std::env::args().skip(1).collect();
     let limit = match words.as_slice() {
@@ -106,6 +131,9 @@ fn main() {
         sha256(&stm_image);
     };
     greatest = greatest.max(compare(&name, DIGESTS, || case.check(&stm_image), digest));
+    let [signed, unsigned] = naming_others();
+    let name = format!("{}, and {}", signed.name, unsigned.name);
+    greatest = greatest.max(compare(&name, CHECKS, || signed.check(&[]), || unsigned.check(&[])));
     if greatest > limit {
         eprintln!("more than {limit} times as long");
         std::process::exit(1);

@@ -19,7 +19,8 @@ slice-aggregate-encode c = search (needs, front-aggregate)
 
 encode-requires : tie.Need-encode-requires
 encode-requires c κs =
-    let s = c .before .before .before .before .before .before .before .before .before .before in
+    let at-known = c .before .before .before .before .before .before .before in
+    let s = at-known .before .before .before in
     let k : ℕ = length (now (s .args .key)) in (
       s .pre .0 .hash,
       omega (arith, front-length k (s .pre .0 .known) (now (s .args .em)) (s .pre .1 .bytes), key-room k (s .pre .0 .known) .1 .0),
@@ -63,10 +64,12 @@ slice-aggregate-loaded-6 c = search (needs, part-aggregate)
 
 loaded-requires : tie.Need-loaded-requires
 loaded-requires c κs =
-    let s = c .before .before .before .before .before .before .before .before .before .before .before .before .before .before .before .before .before .before .before in
+    let at-encode = c .before .before .before .before .before .before .before .before in
+    let at-known = at-encode .before .before .before .before .before .before .before .before in
+    let s = at-known .before .before .before in
     let k : ℕ = length (now (s .args .key)) in
     let digest = now (s .args .digest) in
-    let e = c .before .before .before .before .before .before .before .before .encode in
+    let e = at-encode .encode in
     let room = key-room k (s .pre .0 .known) in
     let part = part-length k (s .pre .0 .known) in
     let n = part (now (s .args .n)) (s .pre .1 .modulus) in
@@ -109,11 +112,17 @@ same-length-6 c = search needs
 
 returns : tie.Need-returns
 returns c =
-    let s = c .before .before .before .before .before .before .before .before .before .before .before .before .before .before .before .before .before .before .before .before .before .before .before .before .before .before .before .before .before .before in
+    let at-number = c .before .before .before .before .before in
+    let at-loaded = at-number .before .before .before .before .before in
+    let at-parts = at-loaded .before .before .before .before .before .before in
+    let at-encode = at-parts .before .before .before in
+    let at-known = at-encode .before .before .before .before .before .before .before .before in
+    let s = at-known .before .before .before in
     let k : ℕ = length (now (s .args .key)) in
-    c .before .before .before .before .before .before .before .before .before .before .loaded .ensures
+    let e = at-encode .encode in
+    at-loaded .loaded .ensures
     ∙ ap (λ (m : ℕ). matches (littleEndian (now (s .args .key))) (littleEndian (now (s .args .signature))) m)
-    (message-number k (s .pre .0 .known) (now (s .args .em)) (s .pre .1 .bytes) (c .before .before .before .before .before .before .before .before .before .before .before .before .before .before .before .before .before .before .before .encode .last .0) (c .before .before .before .before .before .before .before .before .before .before .before .before .before .before .before .before .before .before .before .encode .kept .0) (now (s .args .digest)) (c .before .before .before .before .before .before .before .before .before .before .before .before .before .before .before .before .before .before .before .encode .ensures))
+    (message-number k (s .pre .0 .known) (now (s .args .em)) (s .pre .1 .bytes) (e .last .0) (e .kept .0) (now (s .args .digest)) (e .ensures))
 
 pub checked-spec : {M : Type 1} → statement M
 checked-spec =

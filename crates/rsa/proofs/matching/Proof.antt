@@ -30,14 +30,17 @@ returns-3 c = not-above _ _ _ (sym (c .before .less2 .ensures) ∙ not-true _ (c
 
 raise-requires : tie.Need-raise-requires
 raise-requires c κs =
-    let s = c .before .before .before .before .before .before .before .before .before .before .before .before .before in
-    let above : value (now (s .args .m)) < value (now (s .args .n)) = ltb-true _ _ (sym (c .before .before .before .less2 .ensures) ∙ not-false _ (c .before .before .if3 .left)) in
+    let at-less-2 = c .before .before .before in
+    let at-less = at-less-2 .before .before in
+    let at-odd = at-less .before in
+    let s = at-odd .before .before .before .before .before .before .before in
+    let above : value (now (s .args .m)) < value (now (s .args .n)) = ltb-true _ _ (sym (at-less-2 .less2 .ensures) ∙ not-false _ (c .before .before .if3 .left)) in
     record {
       result = s .pre .0 .second;
       scratch = s .pre .0 .first;
       long = s .pre .0 .signature;
-      below = ltb-true _ _ (sym (c .before .before .before .before .before .less .ensures) ∙ not-false _ (c .before .before .before .before .if2 .left));
-      odd = low-odd (now (s .args .n)) (c .before .before .before .before .before .before .if1 .left);
+      below = ltb-true _ _ (sym (at-less .less .ensures) ∙ not-false _ (at-less-2 .before .if2 .left));
+      odd = low-odd (now (s .args .n)) (at-odd .if1 .left);
       large = omega (arith, s .pre .1, above);
     }
 
@@ -52,9 +55,14 @@ same-length-2 c = search needs
 
 returns-4 : tie.Need-returns-4
 returns-4 c =
-    let s = c .before .before .before .before .before .before .before .before .before .before .before .before .before .before .before .before .before .before .before .before in
-    compared (value (now (s .args .n))) (value (now (s .args .s))) (value (now (s .args .m))) (value (c .before .before .before .before .before .before .raise .last .0)) (c .same .result)
-    (low-odd (now (s .args .n)) (c .before .before .before .before .before .before .before .before .before .before .before .before .before .if1 .left)) (sym (c .before .before .before .before .before .before .before .before .before .before .before .before .less .ensures) ∙ not-false _ (c .before .before .before .before .before .before .before .before .before .before .before .if2 .left)) (c .before .before .before .before .before .before .raise .ensures) (c .same .ensures)
+    let at-raise = c .before .before .before .before .before .before in
+    let at-test = at-raise .before .before .before .before .before in
+    let at-less = at-test .before in
+    let at-odd = at-less .before in
+    let s = at-odd .before .before .before .before .before .before .before in
+    let raised = at-raise .raise in
+    compared (value (now (s .args .n))) (value (now (s .args .s))) (value (now (s .args .m))) (value (raised .last .0)) (c .same .result)
+    (low-odd (now (s .args .n)) (at-odd .if1 .left)) (sym (at-less .less .ensures) ∙ not-false _ (at-test .if2 .left)) (raised .ensures) (c .same .ensures)
 
 pub matching-spec : {M : Type 1} → statement M
 matching-spec =

@@ -34,10 +34,14 @@ sub-result-2 : tie.Need-sub-result-2
 sub-result-2 c = search needs
 
 array-read-result : tie.Need-array-read-result
-array-read-result c = info-place (c .before .before .before .before .before .args .k) (c .before .before .before .before .before .args .i) (c .if5 .taken)
+array-read-result c =
+    let s = c .before .before .before .before .before in
+    info-place (s .args .k) (s .args .i) (c .if5 .taken)
 
 returns-5 : tie.Need-returns-5
-returns-5 c = at-info (c .before .before .before .before .before .args .k) (now (c .before .before .before .before .before .args .digest)) (c .before .before .before .before .before .args .i) (c .before .before .before .before .before .pre .0) (omega arith) (c .before .if4 .left) (omega arith) (omega arith)
+returns-5 c =
+    let s = c .before .before .before .before .before in
+    at-info (s .args .k) (now (s .args .digest)) (s .args .i) (s .pre .0) (omega arith) (c .before .if4 .left) (omega arith) (omega arith)
 
 sub-result-3 : tie.Need-sub-result-3
 sub-result-3 c = search needs
@@ -49,7 +53,9 @@ shared-slice-read-result : tie.Need-shared-slice-read-result
 shared-slice-read-result c = search needs
 
 returns-6 : tie.Need-returns-6
-returns-6 c = at-digest (c .before .before .before .before .before .before .args .k) (now (c .before .before .before .before .before .before .args .digest)) (c .before .before .before .before .before .before .args .i) (c .before .before .before .before .before .before .pre .0) (omega arith) (omega arith)
+returns-6 c =
+    let s = c .before .before .before .before .before .before in
+    at-digest (s .args .k) (now (s .args .digest)) (s .args .i) (s .pre .0) (omega arith) (omega arith)
 
 pub byte-spec : {M : Type 1} → statement M
 byte-spec =

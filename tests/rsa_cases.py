@@ -8,6 +8,7 @@ Whether a signature verifies is worked out here by RFC 8017, section 8.2.2, with
 for; the two must agree. The numbers are drawn from a generator with a fixed seed, so every run writes the same table.
 """
 import hashlib
+import math
 import random
 
 EXPONENT = 65537
@@ -342,6 +343,20 @@ def below_the_encoding(table):
     table.add("below the encoding", "the power is the encoded message modulo n", "no", key.n, key.signature(em), message)
 
 
+def exponents(table):
+    """Signatures with another exponent, the neighbours of the right one among them. Modulo a prime n that is 3 modulo 4 the order of the squares is
+    odd, so each square has a root for every exponent that has no factor in common with it."""
+    for exponent, expected in ((EXPONENT, "yes"), (3, "no"), (EXPONENT - 1, "no"), (EXPONENT + 1, "no")):
+        order, n = next((n // 2, n) for n in shaped(8 * table.k).values() if n % 4 == 3 and math.gcd(exponent, n // 2) == 1)
+        message = drawn_bytes(20)
+        while pow(int.from_bytes(emsa(table.k, message), "big"), order, n) != 1:
+            message = drawn_bytes(20)
+        m = int.from_bytes(emsa(table.k, message), "big")
+        s = pow(m, pow(exponent, -1, order), n)
+        assert pow(s, exponent, n) == m, exponent
+        table.add("exponent", str(exponent), expected, n, s, message)
+
+
 def drawn(table):
     bits = 8 * table.k
     for i in range(6):
@@ -359,6 +374,7 @@ def main():
         carries(table)
         below_the_encoding(table)
         drawn(table)
+        exponents(table)
 
 
 if __name__ == "__main__":

@@ -9,12 +9,13 @@ use std::path::Path;
 const SIZES: [&str; 2] = ["256", "384"];
 
 /// The kinds of cases, and how many of each verify and do not verify, for each key size.
-const KINDS: [(&str, usize, usize); 14] = [
+const KINDS: [(&str, usize, usize); 15] = [
     ("below the encoding", 0, 1),
     ("byte order", 1, 4),
     ("carries", 10, 0),
     ("digest", 0, 20),
     ("drawn", 0, 6),
+    ("exponent", 1, 3),
     ("leading zero", 1, 5),
     ("length", 1, 13),
     ("modulus", 0, 16),
@@ -81,7 +82,7 @@ fn every_kind_for_both_sizes() {
     let of = |size: &'static str| KINDS.iter().map(move |(kind, yes, no)| (format!("{size} {kind}"), (*yes, *no)));
     assert_eq!(counts, SIZES.into_iter().flat_map(of).collect());
     let all = counts.values().fold((0, 0), |all, count| (all.0 + count.0, all.1 + count.1));
-    assert_eq!(all, (48, 212), "cases that verify, and that do not");
+    assert_eq!(all, (50, 218), "cases that verify, and that do not");
 }
 
 #[test]

@@ -25,13 +25,13 @@ use Rattle.decision.specs.Inner.{reachedSeen, verifiedIn, verifiedSeen, 
 
 -- A SIGNED LIST, by what is read for it
 
-module _ (s : List ℕ) (l : ListAnswer) (start size version es n c k key signature : ℕ) (q : l ≡ lists.Signed start size version es n c k key signature) where
+module _ (l : ListAnswer) (start size version es n c k key signature : ℕ) (q : l ≡ lists.Signed start size version es n c k key signature) where
   pub counter-read : (least counter : ℕ) → counter ≡ least → leb counter c ≡ reachedSeen least l
   counter-read least counter e = rw (q, e)
 
-  pub signature-read : (whole part signed modulus : List ℕ) (r : Bool) → whole ≡ partAt s start size → part ≡ partAt s signature k
+  pub signature-read : (s whole part signed modulus : List ℕ) (r : Bool) → whole ≡ partAt s start size → part ≡ partAt s signature k
       → signed ≡ withoutLast (length part) whole → modulus ≡ partAt s key k → r ≡ verifies modulus part signed → r ≡ verifiedSeen (seenList s l)
-  signature-read whole part signed modulus r e₁ e₂ e₃ e₄ e = rw q (e ∙ rw (e₃, e₄, e₁, e₂))
+  signature-read s whole part signed modulus r e₁ e₂ e₃ e₄ e = rw q (e ∙ rw (e₃, e₄, e₁, e₂))
 
 -- ELEMENTS AND SIGNATURE TOGETHER, by what is known of the elements
 

@@ -35,8 +35,14 @@ list-judged-requires-3 c κs = search needs
 
 returns : tie.Need-returns
 returns c =
-    rw (c .list-judged3 .ensures)
-    (λ es r stand. elements-refuse _ _ (no-image _ es _ (c .before .before .before .before .elements-judged .ensures es _ r stand) (c .before .before .enum-told3 .given .1) (c .before .if1 .taken)), c .before .before .before .before .before .before .before .before .pre .1)
+    let at-told = c .before .before in
+    let at-judged = at-told .before .before in
+    let s = at-judged .before .before .before .before in
+    rw (c .list-judged3 .ensures) (
+      λ es r stand.
+          elements-refuse _ _ (no-image _ es _ (at-judged .elements-judged .ensures es _ r stand) (at-told .enum-told3 .given .1) (c .before .if1 .taken)),
+      s .pre .1,
+    )
 
 signature-verifies-requires-2 : tie.Need-signature-verifies-requires-2
 signature-verifies-requires-2 c κs = search needs
@@ -65,21 +71,35 @@ list-judged-requires-5 c κs = search needs
 
 returns-3 : tie.Need-returns-3
 returns-3 c =
+    let at-judged = c .before .before .before in
+    let s = at-judged .before .before .before .before in
     rw (c .list-judged .ensures)
-    (λ es r stand. elements-refuse _ _ (do-not-permit _ es _ (c .before .before .before .elements-judged .ensures es _ r stand) (c .before .enum-told .given .1)), c .before .before .before .before .before .before .before .pre .1)
+    (λ es r stand. elements-refuse _ _ (do-not-permit _ es _ (at-judged .elements-judged .ensures es _ r stand) (c .before .enum-told .given .1)), s .pre .1)
 
 returns-4 : tie.Need-returns-4
 returns-4 c =
-    rw (c .list-judged2 .ensures)
-    (λ es r stand. signature-decides _ _ (do-permit _ es _ (c .before .before .before .before .elements-judged .ensures es _ r stand) (c .before .before .enum-told2 .given .1)) _ (c .before .signature-verifies .ensures), c .before .before .before .before .before .before .before .before .pre .1)
+    let at-told = c .before .before in
+    let at-judged = at-told .before .before in
+    let s = at-judged .before .before .before .before in
+    rw (c .list-judged2 .ensures) (
+      λ es r stand.
+          signature-decides _ _ (do-permit _ es _ (at-judged .elements-judged .ensures es _ r stand) (at-told .enum-told2 .given .1)) _
+          (c .before .signature-verifies .ensures),
+      s .pre .1,
+    )
 
 returns-5 : tie.Need-returns-5
 returns-5 c =
-    let known = c .before .before .before .before .stm-digest .ensures in
+    let at-digest = c .before .before .before .before in
+    let at-verified = at-digest .before .before in
+    let at-told = at-verified .before .before in
+    let at-judged = at-told .before .before in
+    let known = at-digest .stm-digest .ensures in
     rw (c .list-judged5 .ensures) (
       λ es r stand.
-          elements-decide _ _ (sym (c .before .before .before .before .before .before .signature-verifies2 .ensures) ∙ not-false _ (c .before .before .before .before .before .if2 .left)) _
-          (by-digest _ es _ (c .before .before .before .before .before .before .before .before .before .before .elements-judged .ensures es _ r stand) (c .before .before .before .before .before .before .before .before .enum-told3 .given .1) (c .before .before .before .before .before .before .before .if1 .left) _ (known .1) _ (c .before .stm-named .ensures es stand)),
+          elements-decide _ _ (sym (at-verified .signature-verifies2 .ensures) ∙ not-false _ (at-digest .before .if2 .left)) _
+          (by-digest _ es _ (at-judged .elements-judged .ensures es _ r stand) (at-told .enum-told3 .given .1) (at-verified .before .if1 .left) _ (known .1) _
+          (c .before .stm-named .ensures es stand)),
       λ e. known .1,
     )
 

@@ -1,5 +1,4 @@
 -- `counter_reached` meets its contract, case by case.
-use mathlib.Core.List.{[]}
 use Rattle.decision.proofs.ListAnswers.{counter-read}
 use borrow.Author.Needs.{needs}
 use Rattle.decision.proofs.signing.counter_reached.Statement.{statement}
@@ -21,7 +20,7 @@ returns : tie.Need-returns
 returns c = search needs
 
 returns-2 : tie.Need-returns-2
-returns-2 c = counter-read [] _ _ _ _ _ _ _ _ _ _ (c .before .before .l .given .1) _ _ (c .revocation-counter .ensures)
+returns-2 c = counter-read _ _ _ _ _ _ _ _ _ _ (c .before .before .l .given .1) _ _ (c .revocation-counter .ensures)
 
 returns-3 : tie.Need-returns-3
 returns-3 c = search needs

@@ -33,7 +33,7 @@ returns c = search needs
 
 returns-2 : tie.Need-returns-2
 returns-2 c =
-    signature-read _ _ _ _ _ _ _ _ _ _ _ (c .before .before .before .before .before .before .l .given .1) _ _ _ _ _ (c .before .before .before .before .part-at .ensures) (c .before .before .before .part-at2 .ensures)
+    signature-read _ _ _ _ _ _ _ _ _ _ (c .before .before .before .before .before .before .l .given .1) _ _ _ _ _ _ (c .before .before .before .before .part-at .ensures) (c .before .before .before .part-at2 .ensures)
     (c .before .before .without-last .ensures) (c .before .part-at3 .ensures) (c .verify .ensures)
 
 returns-3 : tie.Need-returns-3

@@ -7,6 +7,6 @@ use Rattle.answer.specs.declared.Answer.{Answer}
 abbrev pub noList : ℕ
 noList = 255
 
--- "A refusal has page count 0, list 255, digest all zero"
-abbrev pub refused : ℕ → Answer
-refused n = record { number = n; pages = 0; list = noList; digest = replicate 32 0 }
+-- "A refusal has page count 0, list 255, digest all zero", and its place
+abbrev pub refused : ℕ → ℕ → Answer
+refused n p = record { number = n; pages = 0; list = noList; place = p; digest = replicate 32 0 }

@@ -9,7 +9,7 @@ use borrow.Author.Tests.{lt-ltb, le-ltb, eq-eqb, ne-eqb}
 use lib.ListN.{length, take, drop, set, getD, length-drop}
 use lib.Seq.{take-suc, take-suc-set, take-all, drop-cons, drop-set-lt, getD-set-same, lt-length-set, append-snoc}
 use Rattle.answer.specs.declared.Answer.{Answer}
-use Rattle.answer_text.specs.Text.{LF, digit, hexDigit, digits, decimal, hex, permittedText, listText, refusedText, firstLine}
+use Rattle.answer_text.specs.Text.{LF, digit, hexDigit, digits, decimal, hex, permittedText, listText, refusedText, atText, notOfGrammar, refusedLine, firstLine}
 
 -- DIGITS, FROM THE LAST TO THE FIRST
 
@@ -78,7 +78,24 @@ module _ (a : Answer) where
   unfolding firstLine
   permitted-said n e₀ e₁ e₂ e₃ e₄ e₅ = rw (eq-eqb (a .number) 0 n, e₅, e₄, e₃, e₂, e₁, e₀)
 
-  pub refused-said : {l₀ l₁ l₂ l₃ : List ℕ} → (a .number ≡ 0 → ⊥)
-      → l₀ ≡ [] → l₁ ≡ l₀ ++ refusedText → l₂ ≡ l₁ ++ decimal (a .number) → l₃ ≡ l₂ ++ (LF ∷ []) → l₃ ≡ firstLine a
+  pub refused-said : {l : List ℕ} → (a .number ≡ 0 → ⊥) → l ≡ refusedLine a → l ≡ firstLine a
   unfolding firstLine
-  refused-said n e₀ e₁ e₂ e₃ = rw (ne-eqb (a .number) 0 n, e₃, e₂, e₁, e₀)
+  refused-said n e = rw (ne-eqb (a .number) 0 n) e
+
+  -- the line of a refusal, as far as its number
+  abbrev numbered : List ℕ
+  numbered = refusedText ++ decimal (a .number)
+
+  pub placed-said : {l₀ l₁ l₂ l₃ l₄ l₅ : List ℕ} → a .number ≡ notOfGrammar
+      → l₀ ≡ [] → l₁ ≡ l₀ ++ refusedText → l₂ ≡ l₁ ++ decimal (a .number)
+      → l₃ ≡ l₂ ++ atText → l₄ ≡ l₃ ++ decimal (a .place) → l₅ ≡ l₄ ++ (LF ∷ []) → l₅ ≡ refusedLine a
+  unfolding refusedLine
+  placed-said n e₀ e₁ e₂ e₃ e₄ e₅ =
+      rw (eq-eqb (a .number) notOfGrammar n, e₅, e₄, e₃, e₂, e₁, e₀)
+      (ap (λ (t : List ℕ). t ++ (LF ∷ [])) (append-assoc numbered atText (decimal (a .place))))
+
+  pub number-said : {l₀ l₁ l₂ l₃ : List ℕ} → (a .number ≡ notOfGrammar → ⊥)
+      → l₀ ≡ [] → l₁ ≡ l₀ ++ refusedText → l₂ ≡ l₁ ++ decimal (a .number) → l₃ ≡ l₂ ++ (LF ∷ []) → l₃ ≡ refusedLine a
+  unfolding refusedLine
+  number-said n e₀ e₁ e₂ e₃ =
+      rw (ne-eqb (a .number) notOfGrammar n, e₃, e₂, e₁, e₀) (ap (λ (t : List ℕ). t ++ (LF ∷ [])) (sym (append-nil numbered)))

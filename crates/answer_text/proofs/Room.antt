@@ -9,7 +9,7 @@ use borrow.Author.Tests.{le-leb}
 use lib.Dec.{ltb, eqb}
 use lib.ListN.{length, take, drop, length-append, length-take}
 use Rattle.answer.specs.declared.Answer.{Answer}
-use Rattle.answer_text.specs.Text.{LF, digit, digits, mostDigits, decimal, listText, permittedLine, refusedLine, firstLine, pageLines, shownPages, lentPlaces, lentOutput, output, fits, outputLength, outputIn, OutputFits}
+use Rattle.answer_text.specs.Text.{LF, digit, digits, mostDigits, decimal, listText, permittedLine, refusedText, atText, notOfGrammar, placeShown, refusedLine, firstLine, pageLines, shownPages, lentPlaces, lentOutput, output, fits, outputLength, outputIn, OutputFits}
 use Rattle.answer_text.proofs.Written.{lines-length}
 
 digits-most : (most n : ℕ) → length (digits most n) ≤ most
@@ -22,6 +22,20 @@ digits-most (suc most) n = by (ltb n 10) (digits-most most (n / 10))
     by false h = omega (arith, length-append (digits most (n / 10)) (digit (n % 10) ∷ []))
 
 module _ (a : Answer) (places : List ℕ) where
+  place-most : length (placeShown a) ≤ 14
+  place-most = by (eqb (a .number) notOfGrammar)
+    where
+      by : (t : Bool) → length (cond t (atText ++ decimal (a .place)) []) ≤ 14
+      by true = omega (arith, length-append atText (decimal (a .place)), digits-most mostDigits (a .place))
+      by false = omega arith
+
+  refused-most : length (refusedLine a) ≤ 48
+  unfolding refusedLine
+  refused-most =
+      let number = refusedText ++ decimal (a .number) in
+      let size : length number ≤ 18 = omega (arith, length-append refusedText (decimal (a .number)), digits-most mostDigits (a .number)) in
+      omega (arith, length-append (number ++ placeShown a) (LF ∷ []), length-append number (placeShown a), place-most)
+
   first-most : length (firstLine a) ≤ 48
   unfolding firstLine
   first-most = by (eqb (a .number) 0)
@@ -33,7 +47,7 @@ module _ (a : Answer) (places : List ℕ) where
           let list : length (decimal (a .pages) ++ listText ++ decimal (a .list)) ≤ 26 =
           omega (arith, length-append (decimal (a .pages) ++ listText) (decimal (a .list)), digits-most mostDigits (a .list)) in
           omega (arith, length-append (decimal (a .pages) ++ listText ++ decimal (a .list)) (LF ∷ []))
-      by false = omega (arith, length-append (decimal (a .number)) (LF ∷ []), digits-most mostDigits (a .number))
+      by false = refused-most
 
   shown-most : (a .pages ≤ lentPlaces) ⊎ (length places ≤ lentPlaces) → length (shownPages a places) ≤ lentPlaces
   unfolding shownPages

@@ -51,13 +51,24 @@ listText = 0x20 ∷ 0x6C ∷ 0x69 ∷ 0x73 ∷ 0x74 ∷ 0x3D ∷ []
 abbrev pub refusedText : List ℕ
 refusedText = 0x72 ∷ 0x65 ∷ 0x66 ∷ 0x75 ∷ 0x73 ∷ 0x65 ∷ 0x64 ∷ 0x20 ∷ []
 
+-- ` at `
+abbrev pub atText : List ℕ
+atText = 0x20 ∷ 0x61 ∷ 0x74 ∷ 0x20 ∷ []
+
 -- "permitted pages=2 list=255"
 abbrev pub permittedLine : Answer → List ℕ
 permittedLine a = permittedText ++ decimal (a .pages) ++ listText ++ decimal (a .list) ++ (LF ∷ [])
 
+-- "The program prints a 27 as `refused 27 at 36`.": the number of a policy file that is not of the grammar is shown with its place, also where that is 0
+abbrev pub notOfGrammar : ℕ
+notOfGrammar = 27
+
+abbrev pub placeShown : Answer → List ℕ
+placeShown a = cond (eqb (a .number) notOfGrammar) (atText ++ decimal (a .place)) []
+
 -- "Any refusal prints one line, as `refused 16`."
-abbrev pub refusedLine : Answer → List ℕ
-refusedLine a = refusedText ++ decimal (a .number) ++ (LF ∷ [])
+unfoldable pub refusedLine : Answer → List ℕ
+refusedLine a = refusedText ++ decimal (a .number) ++ placeShown a ++ (LF ∷ [])
 
 unfoldable pub firstLine : Answer → List ℕ
 firstLine a = cond (eqb (a .number) 0) (permittedLine a) (refusedLine a)

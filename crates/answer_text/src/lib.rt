@@ -7,8 +7,11 @@ ghost use mathlib.Core.List.{[], _++_};
 ghost use Prim.Native.Nat.{_+_, _*_, _<_, _≤_};
 ghost use lib.ListN.{length, take, drop};
 ghost use lib.Seq.{paste};
-ghost use Rattle.answer_text.specs.Text.{output as Text·output, written, firstLine, pageLine, pageLines, shownPages, outputLength, outputIn, AtFront};
+ghost use Rattle.answer_text.specs.Text.{output as Text·output, written, refusedLine, firstLine, pageLine, pageLines, shownPages, outputLength, outputIn, AtFront};
 ghost use Rattle.answer_text.specs.Text.{digit as Text·digit, hexDigit as Text·hexDigit, decimal as Text·decimal};
+
+// The number that is shown with its place: the policy file is not of the grammar.
+const NOT_OF_GRAMMAR: u32 = 27;
 
 const MOST_DIGITS: usize = 10;
 
@@ -109,6 +112,18 @@ fn empty() -> Line
     }
 }
 
+// The first line of a refusal: its number, and where the policy file is not of the grammar the place of the first fault in it.
+fn refused_line(a: Answer) -> Line
+    ensures { λ r. ⌜ (written r ≡ refusedLine a) × (r .len ≤ 48) ⌝ }
+{
+    let number = with_number(with_text(empty(), b"refused "), a.number);
+    if a.number == NOT_OF_GRAMMAR {
+        let place = with_number(with_text(number, b" at "), a.place);
+        return with_text(place, b"\n");
+    }
+    with_text(number, b"\n")
+}
+
 // The first line: what is answered, and on permission how many pages there are and which list permits.
 fn first_line(a: Answer) -> Line
     ensures { λ r. ⌜ (written r ≡ firstLine a) × (r .len ≤ 48) ⌝ }
@@ -118,8 +133,7 @@ fn first_line(a: Answer) -> Line
         let list = with_number(with_text(pages, b" list="), a.list);
         return with_text(list, b"\n");
     }
-    let number = with_number(with_text(empty(), b"refused "), a.number);
-    with_text(number, b"\n")
+    refused_line(a)
 }
 
 // The line of a page: its address.

@@ -25,19 +25,20 @@ platformOf window heap sinit dpr dprSize capacity vendor device revision =
 abbrev pub countsOf : Answer → List ℕ
 countsOf a = a .pages ∷ a .list ∷ []
 
--- how an answer and the page list that goes with it are given: the number as the result, how many pages and the list in one array, the digest
--- in another
-pub record Given (answer : Answer) (places : List ℕ) (result : ℕ) (pages : List ℕ) (counts : List ℕ) (digest : List ℕ) : Type 0 where
+-- how an answer and the page list that goes with it are given: the number as the result, how many pages and the list in one array, the place and the
+-- digest in others
+pub record Given (answer : Answer) (places : List ℕ) (result : ℕ) (pages counts place digest : List ℕ) : Type 0 where
   pub the-number : result ≡ answer .number
   pub the-pages : pages ≡ places
   pub the-counts : counts ≡ countsOf answer
+  pub the-place : place ≡ answer .place ∷ []
   pub the-digest : digest ≡ answer .digest
 
 -- the same for the answer of the check, where the page list held `listed` before
-abbrev pub GivenFor : Input → List ℕ → ℕ → List ℕ → List ℕ → List ℕ → Type 0
+abbrev pub GivenFor : Input → List ℕ → ℕ → List ℕ → List ℕ → List ℕ → List ℕ → Type 0
 GivenFor input listed = Given (answerOf input) (placesOf input listed)
 
 -- and the measurement in a further array
-abbrev pub MeasuredFor : Input → List ℕ → ℕ → List ℕ → List ℕ → List ℕ → List ℕ → Type 0
-MeasuredFor input listed result pages counts digest measurement =
-    GivenFor input listed result pages counts digest × (measurement ≡ measurementOf input)
+abbrev pub MeasuredFor : Input → List ℕ → ℕ → List ℕ → List ℕ → List ℕ → List ℕ → List ℕ → Type 0
+MeasuredFor input listed result pages counts place digest measurement =
+    GivenFor input listed result pages counts place digest × (measurement ≡ measurementOf input)

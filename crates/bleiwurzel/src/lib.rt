@@ -12,7 +12,7 @@ ghost use Rattle.bleiwurzel.specs.Scalars.{platformOf, Given, GivenFor, 
 use launch::Platform;
 
 // Whether the next launch will succeed: the number. On permission the first places of `pages` hold the addresses of the pages. `counts` gets the
-// number of pages and the list, `digest` the digest of the pages.
+// number of pages and the list, `place` on 27 the offset of the first field at fault in the policy file, else 0, `digest` the digest of the pages.
 #[no_mangle]
 pub extern "C" fn bleiwurzel_check(
     window: &[u8],
@@ -31,13 +31,14 @@ pub extern "C" fn bleiwurzel_check(
     revision: u16,
     pages: &mut [u64],
     counts: &mut [u32; 2],
+    place: &mut [u32; 1],
     digest: &mut [u8; 32],
 ) -> u32
     ensures { λ r. ⌜ GivenFor
         (inputOf (now (window .entry)) (now (heap .entry)) (now (sinit .entry)) (now («record» .entry)) (now (stm .entry))
         (platformOf «window_base» «heap_base» «sinit_base» «dpr_base» «dpr_size» «acram_capacity» vendor device revision)
         (length (now (pages .entry))))
-        (now (pages .entry)) r (now (pages .exit)) (now (counts .exit)) (now (digest .exit)) ⌝ }
+        (now (pages .entry)) r (now (pages .exit)) (now (counts .exit)) (now (place .exit)) (now (digest .exit)) ⌝ }
 {
     let mut measurement = [0u8; 32];
     bleiwurzel_check_measured(
@@ -57,6 +58,7 @@ pub extern "C" fn bleiwurzel_check(
         revision,
         pages,
         counts,
+        place,
         digest,
         &mut measurement,
     )
@@ -81,6 +83,7 @@ pub extern "C" fn bleiwurzel_check_measured(
     revision: u16,
     pages: &mut [u64],
     counts: &mut [u32; 2],
+    place: &mut [u32; 1],
     digest: &mut [u8; 32],
     measurement: &mut [u8; 32],
 ) -> u32
@@ -88,7 +91,7 @@ pub extern "C" fn bleiwurzel_check_measured(
         (inputOf (now (window .entry)) (now (heap .entry)) (now (sinit .entry)) (now («record» .entry)) (now (stm .entry))
         (platformOf «window_base» «heap_base» «sinit_base» «dpr_base» «dpr_size» «acram_capacity» vendor device revision)
         (length (now (pages .entry))))
-        (now (pages .entry)) r (now (pages .exit)) (now (counts .exit)) (now (digest .exit)) (now (measurement .exit)) ⌝ }
+        (now (pages .entry)) r (now (pages .exit)) (now (counts .exit)) (now (place .exit)) (now (digest .exit)) (now (measurement .exit)) ⌝ }
 {
     let platform = Platform {
         window_base: window_base,
@@ -112,8 +115,10 @@ pub extern "C" fn bleiwurzel_check_measured(
         measurement,
     );
     let two = [a.pages, a.list];
+    let one = [a.place];
     let sum = a.digest;
     *counts = two;
+    *place = one;
     *digest = sum;
     a.number
 }
@@ -124,17 +129,20 @@ pub extern "C" fn bleiwurzel_check_capture(
     capture: &[u8],
     pages: &mut [u64],
     counts: &mut [u32; 2],
+    place: &mut [u32; 1],
     digest: &mut [u8; 32],
 ) -> u32
     ensures { λ r. ⌜ Given
         (captureAnswer (now (capture .entry)) (length (now (pages .entry))))
         (capturePlaces (now (capture .entry)) (now (pages .entry)))
-        r (now (pages .exit)) (now (counts .exit)) (now (digest .exit)) ⌝ }
+        r (now (pages .exit)) (now (counts .exit)) (now (place .exit)) (now (digest .exit)) ⌝ }
 {
     let r = capture::check(capture, pages);
     let two = [r.pages, r.list];
+    let one = [r.place];
     let sum = r.digest;
     *counts = two;
+    *place = one;
     *digest = sum;
     r.number
 }

@@ -8,28 +8,33 @@ use policy_answers::ListAnswer;
 use policy_answers::STM_TYPE;
 ghost use mathlib.Core.Path.{_≡_};
 ghost use mathlib.Core.List.{[], _∷_};
-ghost use Rattle.policy_grammar.specs.Decode.{accepted};
+ghost use Rattle.policy_grammar.specs.Decode.{accepted, faultPlace};
 ghost use Rattle.policy_answers.specs.Answers.{fileShown, listAnswer, elementAnswer};
-ghost use Rattle.policy_answers.specs.Seen.{numberOf, countOf};
+ghost use Rattle.policy_answers.specs.Seen.{numberOf, countOf, placeOf};
 ghost use Rattle.bleiwurzel.specs.Policy.{listKind, listFields, elementKind, elementFields, ListNumbersAt, ElementNumbersAt};
 
-// The number of a string: 0, 26 or 27. `lists` gets the number of its lists, 0 where it is refused.
+// The number of a string: 0, 26 or 27. `lists` gets the number of its lists, 0 where it is refused, and `place` on 27 the offset of the first field at
+// fault, else 0.
 #[no_mangle]
-pub extern "C" fn bleiwurzel_policy(file: &[u8], lists: &mut [u64; 1]) -> u32
-    ensures number { λ r. ⌜ r ≡ numberOf (fileShown (now (file .entry)) (accepted (now (file .entry)))) ⌝ }
-    ensures lists { λ _. ⌜ now (lists .exit) ≡ countOf (fileShown (now (file .entry)) (accepted (now (file .entry)))) ∷ [] ⌝ }
+pub extern "C" fn bleiwurzel_policy(file: &[u8], lists: &mut [u64; 1], place: &mut [u64; 1]) -> u32
+    ensures number { λ r. ⌜ r ≡ numberOf (fileShown (now (file .entry)) (accepted (now (file .entry))) (faultPlace (now (file .entry)))) ⌝ }
+    ensures lists { λ _. ⌜ now (lists .exit) ≡ countOf (fileShown (now (file .entry)) (accepted (now (file .entry))) (faultPlace (now (file .entry)))) ∷ [] ⌝ }
+    ensures place { λ _. ⌜ now (place .exit) ≡ placeOf (fileShown (now (file .entry)) (accepted (now (file .entry))) (faultPlace (now (file .entry)))) ∷ [] ⌝ }
 {
     match policy_reader::read(file) {
         FileAnswer::Accepted { lists: n } => {
             *lists = [n as u64];
+            *place = [0];
             0
         }
         FileAnswer::WrongSize => {
             *lists = [0];
+            *place = [0];
             26
         }
-        FileAnswer::NotOfGrammar => {
+        FileAnswer::NotOfGrammar { place: at } => {
             *lists = [0];
+            *place = [at as u64];
             27
         }
     }

@@ -60,7 +60,7 @@ module _ (s : List ℕ) (o : Offsets) (p : Platform) (n : ℕ) where
 
 -- the answer and the page list of a string that is no capture, and of one that is
 module _ (s : List ℕ) (t : Bool) (is-test : t ≡ all (captureTests s)) where
-  pub no-capture : not t ≡ true → (n : ℕ) (places : List ℕ) → (refused notCapture ≡ captureAnswer s n) × (places ≡ capturePlaces s places)
+  pub no-capture : not t ≡ true → (n : ℕ) (places : List ℕ) → (refused notCapture 0 ≡ captureAnswer s n) × (places ≡ capturePlaces s places)
   unfolding captureAnswer capturePlaces
   no-capture h n places = rw (← is-test, not-true t h) (refl, refl)
 
@@ -79,6 +79,6 @@ pub number-most : NumberMost
 unfolding captureAnswer
 number-most s n = by (all (captureTests s))
   where
-    by : (t : Bool) → cond t (answerOf (inputIn s n)) (refused notCapture) .number ≤ notCapture
+    by : (t : Bool) → cond t (answerOf (inputIn s n)) (refused notCapture 0) .number ≤ notCapture
     by true = omega (arith, demand1 (inputIn s n) [] .most)
     by false = omega arith

@@ -114,7 +114,7 @@ abbrev pub notCapture : ℕ
 notCapture = 30
 
 unfoldable pub captureAnswer : List ℕ → ℕ → Answer
-captureAnswer s places = cond (all (captureTests s)) (answerOf (inputIn s places)) (refused notCapture)
+captureAnswer s places = cond (all (captureTests s)) (answerOf (inputIn s places)) (refused notCapture 0)
 
 -- the page list, when the check has answered
 unfoldable pub capturePlaces : List ℕ → List ℕ → List ℕ

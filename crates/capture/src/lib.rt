@@ -107,7 +107,7 @@ pub fn check(s: &[u8], pages: &mut [u64]) -> Answer
     ensures places { λ _. ⌜ now (pages .exit) ≡ capturePlaces (now (s .entry)) (now (pages .entry)) ⌝ }
 {
     if !holds(s) {
-        return answer::refused(NOT_CAPTURE);
+        return answer::refused(NOT_CAPTURE, 0);
     }
     let at = offsets_in(s);
     let heap = at.heap;

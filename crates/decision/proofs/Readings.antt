@@ -1,16 +1,21 @@
--- The files of the grammar: the test of rule 27, the lists that rules 28 and 29 speak of, and that there are at most 8 of them.
+-- The files of the grammar: the test of rule 27, the lists that rules 28 and 29 speak of, and that there are at most 8 of them; and the place of a file that
+-- is not of the grammar.
 use Prim.Native.Nat.{ℕ, _≤_}
 use mathlib.Core.Path.{_≡_, refl, ap, sym}
 use mathlib.Core.Logic.{_↔_}
-use mathlib.Core.Bool.{true, true≢false}
+use mathlib.Core.Bool.{true, false, true≢false}
 use mathlib.Core.List.{List}
 use mathlib.Core.Option.{Option, some, none}
 use native.Mathlib.Omega.{arith}
 use lib.ListN.{length}
 use Rattle.field.specs.Number.{Bytes}
 use Rattle.policy_grammar.specs.Grammar.{Reading}
-use Rattle.policy_grammar.specs.Decode.{accepted}
+use Rattle.policy_grammar.specs.Decode.{accepted, faultPlace}
+use Rattle.policy_grammar.specs.Layout.{whole}
+use Rattle.policy_grammar.specs.Fault.{FirstFault}
+use Rattle.policy_grammar.specs.Sizes.{leastFile, largestFile}
 use Rattle.policy_reader.proofs.Places.{accepted-sound, accepted-complete}
+use Rattle.policy_reader.proofs.Readings.{is-place}
 use Rattle.decision.specs.Lists.{isSome, ofGrammar, listsOf}
 use Rattle.decision.specs.Meaning.{OfGrammar, GrammarExactly, Reads, ListsExactly}
 use Rattle.decision.proofs.Walking.{short}
@@ -25,6 +30,15 @@ grammar-exactly s b h = (λ e. go (accepted s) refl e, λ (r, m). ap isSome (acc
 
 pub lists-exactly : ListsExactly
 lists-exactly file r reads = rw (accepted-complete r file (reads .makes) (reads .most))
+
+-- the place of a file that is not of the grammar, of a size that is read, is that of its first fault
+pub first-fault : (s : List ℕ) → leastFile ≤ length s → length s ≤ largestFile → ofGrammar s ≡ false → FirstFault (whole (length s)) s (faultPlace s)
+unfolding ofGrammar
+first-fault s least most h = is-place s .first least most (go (accepted s) h)
+  where
+    go : (o : Option Reading) → isSome o ≡ false → o ≡ none
+    go none e = refl
+    go (some r) e = absurd (true≢false e)
 
 -- at most 8 lists
 pub few : {file : List ℕ} {r : Reading} → Reads file r → length (r .lists) ≤ 8

@@ -1,4 +1,5 @@
--- A file of the grammar: it is the one that the reader accepts, its lists stand from offset 36 on, and it is no longer than a file may be.
+-- A file of the grammar: it is the one that the reader accepts, its lists stand from offset 36 on, and it is no longer than a file may be. The place of
+-- any other is the one that the reader gives.
 use Prim.Native.Nat.{ℕ, _≤_}
 use mathlib.Core.Path.{_≡_, refl, ap, sym, _∙_}
 use mathlib.Core.Bool.{Bool, true, false, cond, true≢false, and-eq-true-iff}
@@ -13,28 +14,42 @@ use Rattle.policy_answers.specs.declared.FileAnswer.{FileAnswer}
 use Rattle.policy_answers.specs.declared.FileAnswer.the-variants.{Accepted, WrongSize, NotOfGrammar}
 use Rattle.policy_grammar.specs.Grammar.{All, listBytes, ValidList, Reading}
 use Rattle.policy_grammar.specs.Parser.{valueOf}
-use Rattle.policy_grammar.specs.Decode.{reading, accepted}
+use Rattle.policy_grammar.specs.Decode.{reading, accepted, faultPlace}
 use Rattle.policy_grammar.specs.Sizes.{sized}
 use Rattle.policy_answers.specs.Answers.{fileShown}
+use Rattle.policy_answers.specs.Seen.{placeOf}
+use Rattle.policy_reader.proofs.Readings.{fault-outside}
 use Rattle.policy_reader.proofs.Walk.{walk-start}
 use Rattle.decision.specs.Lists.{isSome, ofGrammar, listsOf}
 
 abbrev pub isAccepted : FileAnswer → Bool
 isAccepted (Accepted n) = true
 isAccepted WrongSize = false
-isAccepted NotOfGrammar = false
+isAccepted (NotOfGrammar p) = false
 
-pub grammar-is : (s : List ℕ) (f v : FileAnswer) → f ≡ fileShown s (accepted s) → f ≡ v → ofGrammar s ≡ isAccepted v
-unfolding ofGrammar
-grammar-is s f v e q = sym (ap isAccepted (sym q ∙ e) ∙ go (accepted s))
-  where
-    refused : (x : Bool) → isAccepted (cond x NotOfGrammar WrongSize) ≡ false
-    refused true = refl
-    refused false = refl
+module _ (s : List ℕ) (f v : FileAnswer) (e : f ≡ fileShown s (accepted s) (faultPlace s)) (q : f ≡ v) where
+  pub grammar-is : ofGrammar s ≡ isAccepted v
+  unfolding ofGrammar
+  grammar-is = sym (ap isAccepted (sym q ∙ e) ∙ go (accepted s))
+    where
+      refused : (x : Bool) → isAccepted (cond x (NotOfGrammar (faultPlace s)) WrongSize) ≡ false
+      refused true = refl
+      refused false = refl
 
-    go : (o : Option Reading) → isAccepted (fileShown s o) ≡ isSome o
-    go none = refused (sized s)
-    go (some r) = refl
+      go : (o : Option Reading) → isAccepted (fileShown s o (faultPlace s)) ≡ isSome o
+      go none = refused (sized s)
+      go (some r) = refl
+
+  pub place-is : isAccepted v ≡ false → faultPlace s ≡ placeOf v
+  place-is n = sym (ap placeOf (sym q ∙ e) ∙ go (accepted s) (sym (ap isAccepted (sym q ∙ e)) ∙ n))
+    where
+      refused : (x : Bool) → sized s ≡ x → placeOf (cond x (NotOfGrammar (faultPlace s)) WrongSize) ≡ faultPlace s
+      refused true z = refl
+      refused false z = sym (fault-outside s z)
+
+      go : (o : Option Reading) → isAccepted (fileShown s o (faultPlace s)) ≡ false → placeOf (fileShown s o (faultPlace s)) ≡ faultPlace s
+      go none h = refused (sized s) refl
+      go (some r) h = absurd (true≢false h)
 
 pub record Starts (s : List ℕ) : Type 0 where
   pub valid : All ValidList (listsOf s)

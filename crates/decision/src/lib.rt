@@ -17,6 +17,12 @@ pub struct LaunchCriteria {
     pub acm_version: u64,
 }
 
+// The number of the first of rules 27 and 28 that fails for a file, 0 where both hold, and on 27 the offset of the first field at fault, else 0.
+pub struct FileFault {
+    pub number: u32,
+    pub place: u32,
+}
+
 // The digest of the STM image, once it is known: it is worked out at most once, and only for a list that could permit.
 pub struct StmDigest {
     pub known: bool,

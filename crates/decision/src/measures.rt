@@ -1,13 +1,13 @@
 // The hash of the measures of a file's lists, and rules 27 and 28.
+use crate::FileFault;
 use policy_answers::FileAnswer;
 use policy_answers::ListAnswer;
 use policy_reader::FIRST_LIST;
 ghost use mathlib.Core.Path.{_≡_};
 ghost use mathlib.Core.Bool.{true};
-ghost use Rattle.rules.specs.Rules.{firstFailing};
 ghost use Rattle.policy_answers.specs.Seen.{seenList};
 ghost use Rattle.decision.specs.Lists.{ofGrammar, listsOf, hashOf, hashMatches};
-ghost use Rattle.decision.specs.Answers.{fileRules};
+ghost use Rattle.decision.specs.Answers.{fileFaultOf};
 ghost use Rattle.decision.specs.Inner.{measuredSeen};
 
 // The offset of PolicyHash in a record.
@@ -50,13 +50,19 @@ fn hash_matches(file: &[u8], record: &[u8]) -> bool
     field::marked(record, POLICY_HASH, &h)
 }
 
-// The number of the first of rules 27 and 28 that fails for a file and the record, 0 where both hold.
-pub fn file_fault(file: &[u8], record: &[u8]) -> u32
-    ensures { λ n. ⌜ n ≡ firstFailing (fileRules (now (file .entry)) (now («record» .entry))) ⌝ }
+fn fault(number: u32, place: u32) -> FileFault
+    ensures { λ r. ⌜ r ≡ record { number = number; place = place } ⌝ }
+{
+    FileFault { number, place }
+}
+
+// The first of rules 27 and 28 that fails for a file and the record.
+pub fn file_fault(file: &[u8], record: &[u8]) -> FileFault
+    ensures { λ r. ⌜ r ≡ fileFaultOf (now (file .entry)) (now («record» .entry)) ⌝ }
 {
     match policy_reader::read(file) {
-        FileAnswer::Accepted { .. } => rules::unless(hash_matches(file, record), 28, 0),
-        FileAnswer::WrongSize => 27,
-        FileAnswer::NotOfGrammar => 27,
+        FileAnswer::Accepted { .. } => fault(rules::unless(hash_matches(file, record), 28, 0), 0),
+        FileAnswer::WrongSize => fault(27, 0),
+        FileAnswer::NotOfGrammar { place } => fault(27, place as u32),
     }
 }

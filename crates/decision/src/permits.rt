@@ -133,6 +133,6 @@ pub fn lowest_permitting(file: &[u8], record: &[u8], stm: &[u8], k: LaunchCriter
     match policy_reader::read(file) {
         FileAnswer::Accepted { .. } => lowest_in(file, record, stm, k),
         FileAnswer::WrongSize => NO_LIST,
-        FileAnswer::NotOfGrammar => NO_LIST,
+        FileAnswer::NotOfGrammar { .. } => NO_LIST,
     }
 }

@@ -147,4 +147,5 @@ module _ (i : Input) (places : List ℕ) (b : Bytes (i .window)) (told : length 
         digest = digest;
         anyList = any-list;
         lowest = lowest;
+        place = ap (λ (a : Answer). a .place) (answer-permitted i e);
       }

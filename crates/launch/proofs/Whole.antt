@@ -15,7 +15,7 @@ use Rattle.launch.specs.Rules.{Input, found, findRules, decideRules, rul
 use Rattle.launch.specs.Answer.{answerOf, placesOf, measurementOf, listFor}
 use Rattle.launch.specs.Inner.{noImage, earlyRefusal, refusal, permission, findStage, decideStage, outcomeOf}
 use Rattle.launch.proofs.Finding.{refused-by, complete-by}
-use Rattle.launch.proofs.Deciding.{early-refuses}
+use Rattle.launch.proofs.Deciding.{unplaced-refuses}
 use Rattle.launch.proofs.Order.{find-group}
 
 module _ (i : Input) where
@@ -28,11 +28,11 @@ module _ (i : Input) where
   abbrev later : List Rule
   later = decideRules (i .window) (i .policyRecord) (i .stm) (found i)
 
-  pub find-refuses : (n : ℕ) → findStage i ≡ Refused n → earlyRefusal n ≡ outcomeOf i
+  pub find-refuses : (n : ℕ) → findStage i ≡ Refused n → earlyRefusal n 0 ≡ outcomeOf i
   unfolding findStage outcomeOf rules
   find-refuses n e =
       let a = refused-by (findRules i) (found i) n e in
-      early-refuses (i .window) (found i) outcome 1 22 (findRules i) later (find-group i .numbers) (lit< tt) n (a .0) (a .1)
+      unplaced-refuses (i .window) (found i) outcome 1 22 (findRules i) later (find-group i .numbers) n (lit< tt) (a .0) (a .1)
 
   pub find-passes : (f : Found) → findStage i ≡ Complete f → decideStage (i .window) (i .policyRecord) (i .stm) f ≡ outcomeOf i
   unfolding findStage decideStage outcomeOf rules

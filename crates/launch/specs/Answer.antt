@@ -10,6 +10,7 @@ use Rattle.answer.specs.Answer.{noList, refused}
 use Rattle.mle.specs.Image.{imageDigest, pageList}
 use Rattle.policy_record.specs.Record.{policyType, LIST}
 use Rattle.decision.specs.Lists.{lowestPermitting}
+use Rattle.decision.specs.Answers.{placeFor}
 use Rattle.launch.specs.declared.Found.{Found}
 use Rattle.launch.specs.Rules.{Input, policyFile, criteria, image, found, rules}
 
@@ -24,12 +25,17 @@ permitted i =
       number = 0;
       pages = image i .count;
       list = listFor (i .window) (i .policyRecord) (i .stm) (found i);
+      place = 0;
       digest = imageDigest (i .window) (image i);
     }
 
+-- a refusal with a number, and on 27 with the place in the policy file
+abbrev pub refusedAt : List ℕ → Found → ℕ → Answer
+refusedAt window f n = refused n (placeFor (policyFile window f) n)
+
 -- a refusal with the number of the first rule that fails, the permission where all hold
 unfoldable pub answerOf : Input → Answer
-answerOf i = answerBy refused (permitted i) (rules i)
+answerOf i = answerBy (refusedAt (i .window) (found i)) (permitted i) (rules i)
 
 -- what a refusal shows of the digest of the pages: 29 the digest, since it is the one that no list permits; every other number zeros
 abbrev pub shown : List ℕ → ℕ → List ℕ

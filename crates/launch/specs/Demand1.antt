@@ -4,21 +4,26 @@ use Prim.Native.Nat.{ℕ, _≤_, _<_}
 use mathlib.Core.Path.{_≡_}
 use mathlib.Core.Logic.{_↔_, _≢_, _⊎_}
 use mathlib.Core.List.{List, [], _∷_}
-use lib.ListN.{replicate}
+use lib.ListN.{length, replicate}
 use Rattle.field.specs.Number.{Bytes}
 use Rattle.rules.specs.Rules.{Rule, Every, FirstFails}
 use Rattle.rules.specs.Meaning.{FirstBroken}
+use Rattle.policy_grammar.specs.Layout.{whole}
+use Rattle.policy_grammar.specs.Fault.{FirstFault}
 use Rattle.answer.specs.Answer.{noList}
 use Rattle.launch.specs.Rules.{Input, rules}
 use Rattle.launch.specs.Answer.{answerOf, placesOf}
-use Rattle.launch.specs.Meaning.{meanings}
+use Rattle.launch.specs.Meaning.{file, meanings}
 
--- a refusal: the number is that of a rule that fails while every rule tried before it holds; no pages, list 255, a digest of zeros, and every
--- place of the page list as it was
+-- a refusal: the number is that of a rule that fails while every rule tried before it holds; no pages, list 255, on 27 the place of the first fault in the
+-- policy file, a digest of zeros, and every place of the page list as it was
 pub record Refusal (i : Input) (places : List ℕ) : Type 0 where
   pub named : FirstFails (rules i) (answerOf i .number)
   pub pages : answerOf i .pages ≡ 0
   pub list : answerOf i .list ≡ noList
+  -- "27 must carry the offset of the first field, in file order, whose rule fails or that does not fit"; "the place, 0 for all other numbers"
+  pub fault : answerOf i .number ≡ 27 → FirstFault (whole (length (file i))) (file i) (answerOf i .place)
+  pub place : answerOf i .number ≢ 27 → answerOf i .place ≡ 0
   pub digest : answerOf i .digest ≡ replicate 32 0
   pub kept : placesOf i places ≡ places
 

@@ -56,6 +56,8 @@ module _ (i : Input) (places : List ℕ) where
     -- "Under ANY the list is 255"; under LIST it permits this digest, and no lower one does
     pub anyList : policyType (i .policyRecord) ≡ ANY → answerOf i .list ≡ noList
     pub lowest : policyType (i .policyRecord) ≡ LIST → LowestPermits
+    -- "the place, 0 for all other numbers"
+    pub place : answerOf i .place ≡ 0
 
   -- no list of the reading that makes the file permits the pages
   pub record NoList : Type 0 where

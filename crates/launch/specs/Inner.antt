@@ -10,6 +10,7 @@ use Rattle.pages.specs.declared.Memory.{Memory}
 use Rattle.mle.specs.declared.Image.{Image}
 use Rattle.mle.specs.Image.{imageDigest}
 use Rattle.decision.specs.Lists.{somePermits, lowestPermitting}
+use Rattle.decision.specs.Answers.{placeFor}
 use Rattle.launch.specs.declared.Found.{Found}
 use Rattle.launch.specs.declared.FindAnswer.{FindAnswer}
 use Rattle.launch.specs.declared.FindAnswer.the-variants.{Complete, Refused}
@@ -36,19 +37,23 @@ findStage i = answerBy Refused (Complete (found i)) (findRules i)
 abbrev pub noImage : Image
 noImage = record { window = 0; tables = 0; first = 0; count = 0 }
 
-abbrev pub refusalShowing : List ℕ → ℕ → Outcome
-refusalShowing measurement n = record { answer = refused n; image = noImage; measurement = measurement }
+abbrev pub refusalShowing : List ℕ → ℕ → ℕ → Outcome
+refusalShowing measurement n p = record { answer = refused n p; image = noImage; measurement = measurement }
 
 -- by a rule that is tried before the image is hashed
-abbrev pub earlyRefusal : ℕ → Outcome
-earlyRefusal n = refusalShowing (replicate 32 0) n
+abbrev pub earlyRefusal : ℕ → ℕ → Outcome
+earlyRefusal n p = refusalShowing (replicate 32 0) n p
 
 abbrev pub refusal : List ℕ → Found → ℕ → Outcome
-refusal window f n = refusalShowing (shown (imageDigest window (f .image)) n) n
+refusal window f n = refusalShowing (shown (imageDigest window (f .image)) n) n (placeFor (policyFile window f) n)
 
 abbrev pub permissionWith : Found → ℕ → List ℕ → Outcome
 permissionWith f list digest =
-    record { answer = record { number = 0; pages = f .image .count; list = list; digest = digest }; image = f .image; measurement = digest }
+    record {
+      answer = record { number = 0; pages = f .image .count; list = list; place = 0; digest = digest };
+      image = f .image;
+      measurement = digest;
+    }
 
 abbrev pub permission : List ℕ → Found → ℕ → Outcome
 permission window f list = permissionWith f list (imageDigest window (f .image))

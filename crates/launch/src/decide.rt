@@ -12,12 +12,12 @@ ghost use mathlib.Core.Path.{_≡_};
 ghost use Rattle.answer.specs.Answer.{noList};
 ghost use Rattle.launch.specs.Inner as spec;
 
-// No pages, the answer of a refusal, and what it shows of the digest.
-fn refusal_showing(n: u32, measurement: [u8; 32]) -> Outcome
-    ensures { λ r. ⌜ r ≡ spec.refusalShowing measurement n ⌝ }
+// No pages, the answer of a refusal with its place, and what it shows of the digest.
+fn refusal_showing(n: u32, place: u32, measurement: [u8; 32]) -> Outcome
+    ensures { λ r. ⌜ r ≡ spec.refusalShowing measurement n place ⌝ }
 {
     Outcome {
-        answer: refused(n),
+        answer: refused(n, place),
         image: Image {
             window: 0,
             tables: 0,
@@ -29,10 +29,10 @@ fn refusal_showing(n: u32, measurement: [u8; 32]) -> Outcome
 }
 
 // A refusal by a rule that is tried before the image is hashed.
-pub(crate) fn refusal(n: u32) -> Outcome
-    ensures { λ r. ⌜ r ≡ spec.earlyRefusal n ⌝ }
+pub(crate) fn refusal(n: u32, place: u32) -> Outcome
+    ensures { λ r. ⌜ r ≡ spec.earlyRefusal n place ⌝ }
 {
-    refusal_showing(n, [0u8; 32])
+    refusal_showing(n, place, [0u8; 32])
 }
 
 // The pages, the list and the digest.
@@ -44,6 +44,7 @@ fn permission(f: Found, list: u32, digest: [u8; 32]) -> Outcome
         number: 0,
         pages: image.count,
         list: list,
+        place: 0,
         digest: digest,
     };
     Outcome {
@@ -65,7 +66,7 @@ fn by_file(window: &[u8], file: &[u8], record: &[u8], stm: &[u8], f: Found) -> O
     };
     let list = decision::lowest_permitting(file, record, stm, criteria);
     if list == NO_LIST {
-        return refusal_showing(29, digest);
+        return refusal_showing(29, 0, digest);
     }
     permission(f, list, digest)
 }
@@ -76,12 +77,12 @@ fn by_lists(window: &[u8], record: &[u8], stm: &[u8], f: Found) -> Outcome
 {
     let place = f.policy_file;
     if !decision::file_placed(window, f.window_base, place.base, place.size) {
-        return refusal(26);
+        return refusal(26, 0);
     }
     let file = decision::file(window, f.window_base, place.base, place.size);
     let fault = decision::file_fault(file, record);
-    if fault != 0 {
-        return refusal(fault);
+    if fault.number != 0 {
+        return refusal(fault.number, fault.place);
     }
     by_file(window, file, record, stm, f)
 }
@@ -99,7 +100,7 @@ pub(crate) fn decide(window: &[u8], record: &[u8], stm: &[u8], f: Found) -> Outc
     ensures { λ r. ⌜ r ≡ spec.decideStage (now (window .entry)) (now («record» .entry)) (now (stm .entry)) f ⌝ }
 {
     match policy_record::kind(record, f.flags, f.acm_version) {
-        RecordAnswer::Refused(n) => refusal(n),
+        RecordAnswer::Refused(n) => refusal(n, 0),
         RecordAnswer::Any => by_any(window, f),
         RecordAnswer::List => by_lists(window, record, stm, f),
     }

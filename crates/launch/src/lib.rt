@@ -66,7 +66,7 @@ fn judge(
     ensures { λ r. ⌜ r ≡ outcomeOf (inputOf (now (window .entry)) (now (heap .entry)) (now (sinit .entry)) (now («record» .entry)) (now (stm .entry)) platform places) ⌝ }
 {
     match find(window, heap, sinit, stm, platform, places) {
-        FindAnswer::Refused(n) => refusal(n),
+        FindAnswer::Refused(n) => refusal(n, 0),
         FindAnswer::Complete(f) => decide(window, record, stm, f),
     }
 }

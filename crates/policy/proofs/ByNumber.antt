@@ -12,7 +12,7 @@ use mir.Val.{Fits}
 use mir.Syntax.{w8}
 use Rattle.policy_grammar.specs.Grammar.{All, Element, elementBytes, ValidElement, Signing, PolicyList, listBytes, ValidList, Reading}
 use Rattle.policy_grammar.specs.Grammar as Grammar
-use Rattle.policy_grammar.specs.Decode.{accepted}
+use Rattle.policy_grammar.specs.Decode.{accepted, faultPlace}
 use Rattle.policy_grammar.specs.Sizes.{sized}
 use Rattle.policy_answers.specs.Answers.{fileShown, listShown, signingShown, elementsOf, listsIn, place, listAnswer, elementIn, elementAnswer}
 use Rattle.policy_answers.specs.declared.FileAnswer.{FileAnswer}
@@ -27,7 +27,7 @@ use Rattle.policy_answers.proofs.Slices.{drop-take}
 use Rattle.policy_reader.proofs.Places.{accepted-sound, lists-stand, list-at, elements-part, elements-fit}
 
 -- a list
-module _ (s : List ℕ) (b : (i : ℕ) → Fits w8 (getD s i 0)) (f : FileAnswer) (e : f ≡ fileShown s (accepted s)) where
+module _ (s : List ℕ) (b : (i : ℕ) → Fits w8 (getD s i 0)) (f : FileAnswer) (e : f ≡ fileShown s (accepted s) (faultPlace s)) where
   refused : ((n : ℕ) → f ≡ files.Accepted n → ⊥) → (i : ℕ) → lists.Absent ≡ listAnswer (accepted s) i
   refused h i = go (accepted s) refl
     where
@@ -38,13 +38,13 @@ module _ (s : List ℕ) (b : (i : ℕ) → Fits w8 (getD s i 0)) (f : FileAnswer
   pub none-in-wrong-size : (i : ℕ) → f ≡ files.WrongSize → lists.Absent ≡ listAnswer (accepted s) i
   none-in-wrong-size i h = refused (λ n q. (let z : _≡_ {A = ℕ} 0 1 = cc in omega arith)) i
 
-  pub none-in-other : (i : ℕ) → f ≡ files.NotOfGrammar → lists.Absent ≡ listAnswer (accepted s) i
-  none-in-other i h = refused (λ n q. (let z : _≡_ {A = ℕ} 0 1 = cc in omega arith)) i
+  pub none-in-other : (i p : ℕ) → f ≡ files.NotOfGrammar p → lists.Absent ≡ listAnswer (accepted s) i
+  none-in-other i p h = refused (λ n q. (let z : _≡_ {A = ℕ} 0 1 = cc in omega arith)) i
 
   is-accepted : (n : ℕ) → f ≡ files.Accepted n → (r : Reading) × (accepted s ≡ some r)
   is-accepted n h = go (accepted s) refl (sized s)
     where
-      none-shown : (x : Bool) → files.Accepted n ≡ cond x files.NotOfGrammar files.WrongSize → ⊥
+      none-shown : (x : Bool) → files.Accepted n ≡ cond x (files.NotOfGrammar (faultPlace s)) files.WrongSize → ⊥
       none-shown true q = let z : _≡_ {A = ℕ} 0 1 = cc in omega arith
       none-shown false q = let z : _≡_ {A = ℕ} 0 1 = cc in omega arith
 

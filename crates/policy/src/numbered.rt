@@ -45,7 +45,7 @@ pub fn list(s: &[u8], i: usize) -> ListAnswer
     match read(s) {
         FileAnswer::Accepted { .. } => list_in(s, FIRST_LIST, i),
         FileAnswer::WrongSize => ListAnswer::Absent,
-        FileAnswer::NotOfGrammar => ListAnswer::Absent,
+        FileAnswer::NotOfGrammar { .. } => ListAnswer::Absent,
     }
 }
 

@@ -15,16 +15,21 @@ use Rattle.policy_grammar.specs.Grammar.{Digests, Element, elementBytes, digest
 use Rattle.policy_grammar.specs.Grammar as Grammar
 use Rattle.policy_answers.specs.Parts.{partAt, bodyOf}
 
--- the number and the list count of a string
+-- the number, the list count and the place of a string; "the place, 0 for all other numbers" than 27
 abbrev pub numberOf : FileAnswer → ℕ
 numberOf (Accepted n) = 0
 numberOf WrongSize = 26
-numberOf NotOfGrammar = 27
+numberOf (NotOfGrammar p) = 27
 
 abbrev pub countOf : FileAnswer → ℕ
 countOf (Accepted n) = n
 countOf WrongSize = 0
-countOf NotOfGrammar = 0
+countOf (NotOfGrammar p) = 0
+
+abbrev pub placeOf : FileAnswer → ℕ
+placeOf (Accepted n) = 0
+placeOf WrongSize = 0
+placeOf (NotOfGrammar p) = p
 
 -- a list: all its bytes, and every field, its elements as bytes; an unsigned list has the algorithm 0x0010 and a signed one 0x0014
 pub record ListPart : Type 0 where

@@ -25,11 +25,12 @@ pub const LAUNCH_DIGESTS: usize = 6;
 
 pub const STM_DIGESTS: usize = 4;
 
-// What a string is: accepted, with the number of its lists, or refused. `numberOf` of specs/Seen.antt gives each its number: 0, 26, 27.
+// What a string is: accepted, with the number of its lists, or refused, where it is not of the grammar with the offset of the first field at fault.
+// `numberOf` of specs/Seen.antt gives each its number: 0, 26, 27.
 pub enum FileAnswer {
     Accepted { lists: usize },
     WrongSize,
-    NotOfGrammar,
+    NotOfGrammar { place: usize },
 }
 
 // A list: the offset of its first byte and how many bytes it has, its numbers, and the offsets of its elements, its key and its signature;

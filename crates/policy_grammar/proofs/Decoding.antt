@@ -17,11 +17,12 @@ use Rattle.policy_grammar.specs.Grammar.{Digests, digestsBytes, ValidDig
 use Rattle.policy_grammar.specs.Grammar as Grammar
 use Rattle.policy_grammar.specs.Format.{done, string, any, anyBytes, rest, inside, times, many}
 use Rattle.policy_grammar.specs.Layout as Layout
-use Rattle.policy_grammar.specs.Parser.{value}
+use Rattle.policy_grammar.specs.Parser.{Read, value, fault}
 use Rattle.policy_grammar.specs.Layout.{whole}
 use Rattle.policy_grammar.specs.Decode.{reading}
-use Rattle.policy_grammar.specs.Fault.{Stands, MadeExactly}
-use Rattle.policy_grammar.proofs.Formats.{then-stands, read-stands, stands-read}
+use Rattle.policy_grammar.specs.Fault.{Stands, FirstFault, MadeExactly, SomePlace}
+use Rattle.policy_grammar.proofs.Formats.{value-fault, then-stands, read-stands, stands-read}
+use Rattle.policy_grammar.proofs.Faults.{fault-exactly}
 use Rattle.policy_grammar.proofs.Soundness.{Sound, Made, Complete, bytes-left, then-sound, done-sound, done-complete, number-sound, number-complete, string-sound, string-complete, rest-sound, rest-complete, inside-sound, inside-complete, inside-left, times-sound, times-complete, many-sound, many-complete}
 
 -- a number is one of two
@@ -300,6 +301,17 @@ unfolding reading whole inside Stands
 reading-complete r s m =
     let (n, e, _, z) = stands-read (whole (length s)) s r [] (r, s, [], append-nil s, refl, file-stands r s m, (refl, refl)) in
     e ∙ ap (value r) (omega arith)
+
+-- a string that no reading makes has a first fault
+pub some-place : SomePlace
+some-place s b = (
+  λ (p, f) r m. value-fault (sym (reading-complete r s m) ∙ fault-exactly s p .1 f),
+  λ h. go h (reading s) refl,
+)
+  where
+    go : ((r : Reading) → Makes r s → ⊥) → (g : Read Reading) → reading s ≡ g → (p : ℕ) × FirstFault (whole (length s)) s p
+    go h (value r n) e = absurd (h r (reading-sound s r n b e))
+    go h (fault p) e = (p, fault-exactly s p .0 e)
 
 -- a string is made from one reading only
 pub unique : (r r′ : Reading) (s : List ℕ) → Makes r s → Makes r′ s → r ≡ r′

@@ -1,4 +1,4 @@
--- A fault that is read is the first, for any format: `first-fault`, and for a whole file `fault-exactly`.
+-- A fault that is read is the first, for any format: `first-fault`, and for a whole file `fault-exactly`. It is within the string, and no string has two.
 use Prim.Native.Nat.{ℕ, _+_, _-_, _≤_}
 use native.Mathlib.Omega.{arith}
 use mathlib.Core.Path.{_≡_, refl, ap, sym, _∙_, subst}
@@ -13,11 +13,11 @@ use Rattle.policy_grammar.specs.Format.{Format, done, field, part, bytes
 use Rattle.policy_grammar.specs.Parser.{Read, value, fault, Parser, after, continue, exactly, read}
 use Rattle.policy_grammar.specs.Layout.{whole}
 use Rattle.policy_grammar.specs.Decode.{reading}
-use Rattle.policy_grammar.specs.Fault.{Stands, Reaches, FirstFault, FaultExactly}
+use Rattle.policy_grammar.specs.Fault.{Stands, Reaches, FirstFault, FaultExactly, OnePlace}
 use Rattle.policy_grammar.proofs.Formats.{value-fault, exactly-value, long, read-stands, stands-read, field-reads, part-reads}
 
 -- how far is read
-abbrev reach : {A : Type 0} → Read A → ℕ
+abbrev pub reach : {A : Type 0} → Read A → ℕ
 reach (value a n) = n
 reach (fault p) = p
 
@@ -26,7 +26,7 @@ unfolding after
 reach-after n (value a k) = refl
 reach-after n (fault p) = refl
 
-reach-exactly : {A : Type 0} (n : ℕ) (g : Read A) → reach (exactly n g) ≡ reach g
+pub reach-exactly : {A : Type 0} (n : ℕ) (g : Read A) → reach (exactly n g) ≡ reach g
 unfolding exactly
 reach-exactly n (fault p) = refl
 reach-exactly n (value a k) = go (eqb k n)
@@ -39,6 +39,25 @@ reach-continue : {A B : Type 0} (f : A → Parser B) (s : List ℕ) (g : Read A)
 unfolding continue
 reach-continue f s (value a n) = omega (arith, reach-after n (f a (drop n s)))
 reach-continue f s (fault p) = omega arith
+
+-- nothing past the string is read
+pub within : {A : Type 0} (F : Format A) (s : List ℕ) → reach (read F s) ≤ length s
+unfolding read continue
+within (done a) s = omega arith
+within {A = A} (field k rule next) s = go (leb k (length s) && rule (length s - k) (take k s)) refl (within (next (take k s)) (drop k s))
+  where
+    go : (x : Bool) → (leb k (length s) && rule (length s - k) (take k s)) ≡ x → reach (read (next (take k s)) (drop k s)) ≤ length (drop k s)
+        → reach {A = A} (cond x (after k (read (next (take k s)) (drop k s))) (fault 0)) ≤ length s
+    go true e h = omega (arith, leb-true k (length s) (and-eq-true-iff _ _ .0 e .0), reach-after k (read (next (take k s)) (drop k s)), length-drop k s)
+    go false e h = omega arith
+within {A = A} (part {B = B} n F next) s =
+    go (exactly n (read F (take n s))) (reach-exactly n (read F (take n s))) (within F (take n s)) (λ b k. within (next b) (drop k s))
+  where
+    go : (g : Read B) → reach g ≡ reach (read F (take n s)) → reach (read F (take n s)) ≤ length (take n s)
+        → ((b : B) (k : ℕ) → reach (read (next b) (drop k s)) ≤ length (drop k s)) → reach (continue (λ b. read (next b)) s g) ≤ length s
+    go (value b k) e l h = omega (arith, length-take n s, reach-after k (read (next b) (drop k s)), h b k, length-drop k s)
+    go (fault p) e l h = omega (arith, length-take n s)
+within (bytesLeft next) s = within (next (length s)) s
 
 module _ {A : Type 0} (s u : List ℕ) (q r : ℕ) where
   field-further : (k : ℕ) (rule : ℕ → List ℕ → Bool) (next : List ℕ → Format A) (b : List ℕ) → b ++ u ≡ s → length b ≡ k → rule (length u) b ≡ true
@@ -141,6 +160,9 @@ first-fault {A = A} F s p = (
         let l : p ≤ q = rw e at (furthest F s p (h .reached)) in
         let z : q ≡ p = omega (arith, h .furthest q (reached F s q e)) in
         e ∙ ap fault z
+
+pub one-place : OnePlace
+one-place s p q f g = omega (arith, f .furthest q (g .reached), g .furthest p (f .reached))
 
 pub fault-exactly : FaultExactly
 unfolding reading

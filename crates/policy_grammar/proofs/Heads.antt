@@ -1,12 +1,10 @@
 -- The head of a format: a run of fixed fields, each with its width and its rule. Where the fields up to an offset hold, what follows is read there.
 -- The field at the offset holds too, and what follows is read after it; or it is short or wrong, and the fault is at the offset.
 use Prim.Native.Nat.{ℕ, zero, suc, _+_, _-_, _≤_, _<_}
-use native.Mathlib.Decide.{decLt}
 use native.Mathlib.Omega.{arith}
 use mathlib.Core.Path.{_≡_, refl, ap, sym, _∙_}
 use mathlib.Core.Bool.{Bool, true, false, cond, and-false}
 use mathlib.Core.List.{List, [], _∷_}
-use mathlib.Core.Option.{none, Option·map}
 use lib.ListN.{length, take, drop, length-drop}
 use lib.Seq.{drop-drop}
 use lib.Dec.{T, leb, eqb, lit≤}
@@ -15,7 +13,7 @@ use Rattle.field.specs.Number as Number
 use Rattle.field.specs.Field.{numberAt}
 use Rattle.field.proofs.Laws.{number-at-fits}
 use Rattle.policy_grammar.specs.Format.{Format, done, field, _>>=_, number, string, inside}
-use Rattle.policy_grammar.specs.Parser.{Read, value, fault, valueOf, after, continue, exactly, read, filling}
+use Rattle.policy_grammar.specs.Parser.{Read, value, fault, after, continue, exactly, read, filling}
 use Rattle.policy_grammar.proofs.Formats.{after-zero, after-after, read-then}
 
 -- the fields of F up to an offset hold, and G is read there
@@ -94,72 +92,37 @@ module _ {A B : Type 0} (F : Format A) (s : List ℕ) (at n : ℕ) (m : Format B
   unfolding inside _>>=_ read continue after
   part-wrong p e = h ∙ rw e
 
-  pub part-none : valueOf (exactly n (read m (take n (drop at s)))) ≡ none → valueOf (read F s) ≡ none
-  part-none e = go (exactly n (read m (take n (drop at s)))) refl e
-    where
-      go : (g : Read B) → exactly n (read m (take n (drop at s))) ≡ g → valueOf g ≡ none → valueOf (read F s) ≡ none
-      go (value b k) q h = let z : _≡_ {A = ℕ} 0 1 = cc in absurd (omega arith)
-      go (fault p) q h = ap valueOf (part-wrong p q)
-
-pub value-after : {A : Type 0} (n : ℕ) (g : Read A) → valueOf (after n g) ≡ valueOf g
-unfolding after
-value-after n (value a k) = refl
-value-after n (fault p) = refl
+-- what is read, with its value taken further
+abbrev pub over : {A B : Type 0} → (B → A) → Read B → Read A
+over f (value b n) = value (f b) n
+over f (fault p) = fault p
 
 module _ {A B : Type 0} (f : B → A) (X : List ℕ) where
-  mapped : (g : Read B) → valueOf (continue (λ b. read (done (f b))) X g) ≡ Option·map f (valueOf g)
+  ended : (g : Read B) → continue (λ b. read (done (f b))) X g ≡ over f g
   unfolding continue read after
-  mapped (value b n) = refl
-  mapped (fault p) = refl
+  ended (value b n) = ap (value (f b)) (omega arith)
+  ended (fault p) = refl
 
-  filled : (k L l : ℕ) → L ≡ k + l → (g : Read B) → valueOf (exactly L (after k (continue (λ b. read (done (f b))) X g))) ≡ Option·map f (valueOf (exactly l g))
-  unfolding exactly continue read after
+  filled : (k L l : ℕ) → L ≡ k + l → (g : Read B) → exactly L (after k (over f g)) ≡ after k (over f (exactly l g))
+  unfolding exactly after
   filled k L l e (fault p) = refl
   filled k L l e (value b n) = go (eqb n l) refl
     where
-      go : (x : Bool) → eqb n l ≡ x → valueOf (cond (eqb (k + (n + 0)) L) (value (f b) (k + (n + 0))) (fault (k + (n + 0)))) ≡ Option·map f (valueOf (cond x (value b n) (fault n)))
-      go true q = rw (eq-eqb (k + (n + 0)) L (omega (arith, eqb-true n l q)))
-      go false q = rw (ne-eqb (k + (n + 0)) L (λ z. eqb-false n l q (omega arith)))
+      go : (x : Bool) → eqb n l ≡ x → cond (eqb (k + n) L) (value (f b) (k + n)) (fault (k + n)) ≡ after k (over f (cond x (value b n) (fault n)))
+      go true q = rw (eq-eqb (k + n) L (omega (arith, eqb-true n l q)))
+      go false q = rw (ne-eqb (k + n) L (λ z. eqb-false n l q (omega arith)))
 
 module _ {A B : Type 0} (F : Format A) (s : List ℕ) (at : ℕ) (m : Format B) (f : B → A) (h : Upto F s at (m >>= λ b. done (f b))) where
-  last : read F s ≡ after at (continue (λ b. read (done (f b))) (drop at s) (read m (drop at s)))
-  last = h ∙ ap (after at) (read-then (λ b. done (f b)) m (drop at s))
+  pub last-read : read F s ≡ after at (over f (read m (drop at s)))
+  last-read = h ∙ ap (after at) (read-then (λ b. done (f b)) m (drop at s) ∙ ended f (drop at s) (read m (drop at s)))
 
-  pub last-value : valueOf (read F s) ≡ Option·map f (valueOf (read m (drop at s)))
-  last-value = ap valueOf last ∙ value-after at _ ∙ mapped f (drop at s) (read m (drop at s))
+  pub last-filling : at ≤ length s → filling F s ≡ after at (over f (filling m (drop at s)))
+  last-filling l = ap (exactly (length s)) last-read ∙ filled f (drop at s) at (length s) (length (drop at s)) (omega (arith, length-drop at s)) (read m (drop at s))
 
-  pub last-filling : at ≤ length s → valueOf (filling F s) ≡ Option·map f (valueOf (filling m (drop at s)))
-  last-filling l = ap (λ (g : Read A). valueOf (exactly (length s) g)) last ∙ filled f (drop at s) at (length s) (length (drop at s)) (omega (arith, length-drop at s)) (read m (drop at s))
+over-none : {A : Type 0} (g : Read A) → over (λ (a : A). a) g ≡ g
+over-none (value a n) = refl
+over-none (fault p) = refl
 
-itself : {A : Type 0} (s : List ℕ) (g : Read A) → valueOf (continue (λ a. read (done a)) s g) ≡ valueOf g
-unfolding continue read after
-itself s (value a n) = refl
-itself s (fault p) = refl
-
-pub inside-value : {A : Type 0} (n : ℕ) (m : Format A) (s : List ℕ) → length (take n s) ≡ n → valueOf (read (inside n m) s) ≡ valueOf (filling m (take n s))
+pub inside-read : {A : Type 0} (n : ℕ) (m : Format A) (s : List ℕ) → length (take n s) ≡ n → read (inside n m) s ≡ filling m (take n s)
 unfolding inside read
-inside-value n m s h = rw h (itself s (exactly n (read m (take n s))))
-
-pub exactly-none : {A : Type 0} (n : ℕ) (g : Read A) → valueOf g ≡ none → valueOf (exactly n g) ≡ none
-unfolding exactly
-exactly-none n (value a k) h = let z : _≡_ {A = ℕ} 0 1 = cc in absurd (omega arith)
-exactly-none n (fault p) h = refl
-
--- a head of n bytes
-abbrev pub Needs : {A : Type 0} → ℕ → Format A → Type 0
-Needs n F = (s : List ℕ) → length s < n → valueOf (read F s) ≡ none
-
-pub any-needs : {A : Type 0} (F : Format A) → Needs 0 F
-any-needs F s h = absurd (omega arith)
-
-pub number-needs : {A : Type 0} (k n : ℕ) (rule : ℕ → ℕ → Bool) (f : ℕ → Format A) → ((x : ℕ) → Needs n (f x)) → Needs (k + n) (number k rule >>= f)
-unfolding number _>>=_ read
-number-needs k n rule f h s l =
-    elim (decLt (length s) k) [
-      | yes p ↦ ap valueOf (number-short (number k rule >>= f) s 0 k rule f (upto-start (number k rule >>= f) s) (omega arith) (omega arith))
-      | no q ↦ rw (le-leb k (length s) (omega arith)) (go (rule (length s - k) (Number.number k (take k s))) (Number.number k (take k s)) (omega arith))
-    ]
-  where
-    go : (o : Bool) (x : ℕ) → k ≤ length s → valueOf (cond o (after k (read (f x) (drop k s))) (fault 0)) ≡ none
-    go true x q = value-after k (read (f x) (drop k s)) ∙ h x (drop k s) (rw length-drop (omega arith))
-    go false x q = refl
+inside-read {A = A} n m s h = ended (λ (a : A). a) s (exactly n (read m (take n s))) ∙ over-none (exactly n (read m (take n s))) ∙ ap (λ (k : ℕ). exactly k (read m (take n s))) (sym h)

@@ -3,11 +3,10 @@
 use Prim.Native.Nat.{ℕ, zero, suc, _≤_, _<_, _^_}
 use native.Mathlib.Omega.{arith}
 use mathlib.Core.Path.{_≡_, refl, ap, sym, _∙_, subst}
-use mathlib.Core.Bool.{Bool, true, false, cond, false≢true}
+use mathlib.Core.Bool.{Bool, true, false, cond}
 use mathlib.Core.List.{List, [], _∷_, _++_, flatMap, append-assoc, append-nil}
-use mathlib.Core.Option.{none}
 use lib.ListN.{length, take, drop, length-append, length-drop}
-use lib.Seq.{take-append-seam, drop-append-seam, take-all, drop-length}
+use lib.Seq.{take-append-seam, drop-append-seam, take-all}
 use lib.Dec.{eqb}
 use borrow.Author.Tests.{eq-eqb, ne-eqb}
 use Rattle.field.specs.Number.{Bytes, bytes}
@@ -15,9 +14,9 @@ use Rattle.field.specs.Number as Number
 use Rattle.field.proofs.Laws.{bytes-drop, bytes-take, length-bytes, number-bytes, bytes-number, number-below}
 use Rattle.policy_grammar.specs.Grammar.{All}
 use Rattle.policy_grammar.specs.Format.{Format, done, _>>=_, number, string, anyBytes, rest, inside, times, many}
-use Rattle.policy_grammar.specs.Parser.{Read, value, fault, valueOf, succeeds, exactly, read, filling, fills}
+use Rattle.policy_grammar.specs.Parser.{value, exactly, read, filling}
 use Rattle.policy_grammar.specs.Fault.{Stands}
-use Rattle.policy_grammar.proofs.Formats.{exactly-value, read-stands, stands-read, then-stands, stands-then}
+use Rattle.policy_grammar.proofs.Formats.{read-stands, stands-read, then-stands, stands-then}
 
 -- whatever stands by F, with its bytes, meets R
 abbrev pub Sound : {A : Type 0} → Format A → (A → List ℕ → Type 0) → Type 0
@@ -124,39 +123,6 @@ module _ {A : Type 0} (F : Format A) (s : List ℕ) where
       let (n, e, _, z) = stands-read F s a [] h in
       let l : n ≡ length s = omega arith in
       rw (e, eq-eqb n (length s) l) (ap (value a) l)
-
-  pub filling-stands : (a : A) (n : ℕ) → filling F s ≡ value a n → Stands F a s []
-  filling-stands a n h =
-      let (e, z) = exactly-value a n (length s) (read F s) h in
-      let d : drop n s ≡ [] = rw z (drop-length s) in
-      subst (Stands F a s) d (read-stands F s a n e .1)
-
-  pub fills-yes : (a : A) → Stands F a s [] → true ≡ fills F s
-  unfolding fills
-  fills-yes a h = rw (filling-value a h)
-
-  pub fills-with : fills F s ≡ true → (a : A) × Stands F a s []
-  unfolding fills
-  fills-with h = go (filling F s) refl h
-    where
-      go : (g : Read A) → filling F s ≡ g → succeeds g ≡ true → (a : A) × Stands F a s []
-      go (fault p) e h = absurd (false≢true h)
-      go (value a n) e h = (a, filling-stands a n e)
-
-  pub fills-none : fills F s ≡ false → valueOf (filling F s) ≡ none
-  unfolding fills
-  fills-none h = go (filling F s) h
-    where
-      go : (g : Read A) → succeeds g ≡ false → valueOf g ≡ none
-      go (fault p) h = refl
-      go (value a n) h = absurd (false≢true (sym h))
-
-  pub fills-not : ((a : A) → Stands F a s [] → ⊥) → false ≡ fills F s
-  fills-not h = go (fills F s) refl
-    where
-      go : (x : Bool) → fills F s ≡ x → false ≡ x
-      go true e = (let (a, w) = fills-with e in absurd (h a w))
-      go false e = refl
 
 -- what is read by a format that is sound, and by one that is complete
 pub reads-sound : {A : Type 0} (f : A → List ℕ) (P : A → Type 0) (F : Format A) → Sound F (Made f P) → (s : List ℕ) (a : A) (n : ℕ) → Bytes s → read F s ≡ value a n

@@ -5,7 +5,7 @@ use mathlib.Core.List.{List}
 use mathlib.Core.Option.{Option, none}
 use lib.ListN.{length}
 use Rattle.policy_grammar.specs.Grammar.{Element, PolicyList, Reading}
-use Rattle.policy_grammar.specs.Parser.{Read, Parser, valueOf, read}
+use Rattle.policy_grammar.specs.Parser.{Read, Parser, valueOf, faultOf, read}
 use Rattle.policy_grammar.specs.Layout as Layout
 use Rattle.policy_grammar.specs.Sizes.{sized}
 
@@ -18,6 +18,10 @@ list = read Layout.list
 unfoldable pub reading : List ℕ → Read Reading
 reading s = read (Layout.whole (length s)) s
 
--- the reading with which the reader accepts a string, forgetting where the first fault is in one that it refuses
+-- the reading with which the reader accepts a string
 unfoldable pub accepted : List ℕ → Option Reading
 accepted s = cond (sized s) (valueOf (reading s)) none
+
+-- the place of the first fault in a string that it refuses with 27, 0 for every other string
+unfoldable pub faultPlace : List ℕ → ℕ
+faultPlace s = cond (sized s) (faultOf (reading s)) 0

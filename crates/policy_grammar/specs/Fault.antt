@@ -1,5 +1,6 @@
--- What a first fault is, said of the fields and not of how they are read: `FirstFault`. That the fault which is read is the first is `fault-exactly` of
--- proofs/Faults.antt; that the fields of a whole file are those of the grammar is `made-exactly` of proofs/Decoding.antt.
+-- What a first fault is, said of the fields and not of how they are read: `FirstFault`. A string that no reading makes has one, and one only. That the
+-- fault which is read is the first is `fault-exactly` of proofs/Faults.antt, where `one-place` is too; that the fields of a whole file are those of the
+-- grammar is `made-exactly` of proofs/Decoding.antt, where `some-place` is.
 use Prim.Native.Nat.{ℕ, _+_, _≤_}
 use mathlib.Core.Path.{_≡_}
 use mathlib.Core.Logic.{_↔_, _⊎_}
@@ -43,6 +44,14 @@ pub record FirstFault {A : Type 0} (fields : Format A) (s : List ℕ) (p : ℕ) 
 -- the fault of a string is its first fault as a whole file
 abbrev pub FaultExactly : Type 0
 FaultExactly = (s : List ℕ) (p : ℕ) → (reading s ≡ fault p) ↔ FirstFault (whole (length s)) s p
+
+-- no string has two first faults
+abbrev pub OnePlace : Type 0
+OnePlace = (s : List ℕ) (p q : ℕ) → FirstFault (whole (length s)) s p → FirstFault (whole (length s)) s q → p ≡ q
+
+-- a string has a first fault exactly where no reading makes it
+abbrev pub SomePlace : Type 0
+SomePlace = (s : List ℕ) → Bytes s → ((p : ℕ) × FirstFault (whole (length s)) s p) ↔ ((r : Reading) → Makes r s → ⊥)
 
 -- the fields of a whole file stand in a string with the reading that makes it, and with no other
 abbrev pub MadeExactly : Type 0

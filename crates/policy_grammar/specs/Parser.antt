@@ -2,7 +2,7 @@
 -- A fault is an offset from the string's first byte: that of the first field that does not fit or breaks its rule, or that of the
 -- first byte after the last field of a part that is longer. specs/Fault.antt says this without the reading.
 use Prim.Native.Nat.{ℕ, _+_, _-_}
-use mathlib.Core.Bool.{Bool, true, false, cond, _&&_}
+use mathlib.Core.Bool.{cond, _&&_}
 use mathlib.Core.List.{List}
 use mathlib.Core.Option.{Option, some, none}
 use lib.ListN.{length, take, drop}
@@ -18,10 +18,10 @@ abbrev pub valueOf : {A : Type 0} → Read A → Option A
 valueOf (value a n) = some a
 valueOf (fault p) = none
 
--- whether a value was read
-abbrev pub succeeds : {A : Type 0} → Read A → Bool
-succeeds (value a n) = true
-succeeds (fault p) = false
+-- the offset of the fault, 0 where a value was read
+abbrev pub faultOf : {A : Type 0} → Read A → ℕ
+faultOf (value a n) = 0
+faultOf (fault p) = p
 
 -- what reads from the front of what is left of the part that holds it
 abbrev pub Parser : Type 0 → Type 0
@@ -50,9 +50,6 @@ read (field k rule next) s =
 read (part n inner next) s = continue (λ b. read (next b)) s (exactly n (read inner (take n s)))
 read (bytesLeft next) s = read (next (length s)) s
 
--- what fills a string, and whether there is such
+-- what fills a string
 abbrev pub filling : {A : Type 0} → Format A → Parser A
 filling F s = exactly (length s) (read F s)
-
-unfoldable pub fills : {A : Type 0} → Format A → List ℕ → Bool
-fills F s = succeeds (filling F s)

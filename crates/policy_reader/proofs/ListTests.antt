@@ -1,36 +1,43 @@
--- What is answered of a list, by the tests that lead to each answer.
-use Prim.Native.Nat.{ℕ, _+_, _-_, _≤_, _<_}
+-- What is read of a list, by the tests that lead to each answer.
+use Prim.Native.Nat.{ℕ, _+_, _-_, _≤_, _<_, _^_}
 use native.Mathlib.Omega.{arith}
 use mathlib.Core.Path.{_≡_, refl, ap, sym, _∙_}
-use mathlib.Core.Logic.{_⊎_, inl, inr, ⊎-elim}
 use mathlib.Core.Bool.{Bool, true, false, _&&_, _||_, not, and-false}
-use mathlib.Core.List.{List, [], append-assoc}
-use mathlib.Core.Option.{Option, some, none, Option·map}
-use lib.ListN.{length, getD, take, drop, length-drop}
+use mathlib.Core.List.{List}
+use lib.ListN.{length, take, drop, length-drop}
 use lib.Seq.{length-take-le}
 use lib.Dec.{leb, eqb}
 use borrow.Author.Tests.{le-leb, lt-leb, eq-eqb, ne-eqb, not-true, not-false}
-use mir.Val.{Fits}
-use mir.Syntax.{w8}
-use Rattle.field.specs.Number.{Bytes}
-use Rattle.field.specs.Number as Number
-use Rattle.field.specs.Field.{numberAt}
-use Rattle.field.proofs.Laws.{bytes-drop, number-bytes}
-use Rattle.policy_grammar.specs.Grammar.{Element, Signature, Signing, signingBytes, ValidSigning, PolicyList}
+use Rattle.field.specs.Field.{fieldAt, numberAt, valueOf}
+use Rattle.field.specs.declared.Field.{Field}
+use Rattle.field.specs.declared.Field.the-variants.{Number, Outside}
+use Rattle.field.proofs.Laws.{from-offset}
+use Rattle.policy_grammar.specs.Grammar.{Element, Signing, PolicyList}
 use Rattle.policy_grammar.specs.Grammar as Grammar
 use Rattle.policy_grammar.specs.Format.{Format, done, _>>=_, number, string, any, anyBytes, inside, many}
-use Rattle.policy_grammar.specs.Parser.{Read, value, fault, valueOf, exactly, read, fills}
+use Rattle.policy_grammar.specs.Parser.{value, after, exactly, read, filling}
 use Rattle.policy_grammar.specs.Layout as Layout
-use Rattle.policy_grammar.specs.Decode as Decode
-use Rattle.policy_grammar.specs.Fault.{Stands}
-use Rattle.policy_answers.specs.Answers.{listShown}
-use Rattle.policy_reader.specs.Inner.{keySizeShown, signedShown}
-use Rattle.policy_answers.specs.declared.ListAnswer.{ListAnswer}
-use Rattle.policy_answers.specs.declared.ListAnswer.the-variants as lists
-use Rattle.policy_grammar.proofs.Soundness.{reads-sound, filling-value, fills-with, fills-none}
-use Rattle.policy_grammar.proofs.Decoding.{signed-sound}
-use Rattle.policy_grammar.proofs.Heads.{Upto, upto-start, number-holds, number-wrong, string-holds, part-holds, part-none, last-value, value-after, Needs, any-needs, number-needs, at-offset}
-use Rattle.field.proofs.Laws.{from-offset}
+use Rattle.policy_grammar.proofs.Formats.{exactly-value}
+use Rattle.policy_grammar.proofs.Heads.{Upto, upto-start, number-holds, number-wrong, string-holds, part-holds, part-wrong}
+use Rattle.policy_reader.specs.Inner.{extentOf, further}
+use Rattle.policy_reader.specs.declared.Extent.{Extent}
+use Rattle.policy_reader.specs.declared.Extent.the-variants.{Size, Fault}
+use Rattle.policy_reader.proofs.ReadExtents.{fitting, number-outside, size-read, fault-read, last-extent}
+
+-- sums of sizes fit
+module _ (g : Field) (n : ℕ) (e : g ≡ Number n) where
+  below : (k : ℕ) → valueOf g < 256 ^ k → n < 256 ^ k
+  unfolding valueOf
+  below k h = rw e at h
+
+  pub key-fits : valueOf g < 256 ^ 2 → 4 + n < 2 ^ 64
+  key-fits h = omega (arith, below 2 h)
+
+  pub signature-fits : valueOf g < 256 ^ 2 → 4 + n + n < 2 ^ 64
+  signature-fits h = omega (arith, below 2 h)
+
+  pub elements-fit : valueOf g < 256 ^ 4 → 8 + n < 2 ^ 64
+  elements-fit h = omega (arith, below 4 h)
 
 -- what signs a list
 abbrev keyRule : ℕ → ℕ → Bool
@@ -40,86 +47,48 @@ abbrev keyAndSignature : ℕ → ℕ → Format Signing
 keyAndSignature c k =
     string k anyBytes >>= λ key. string k anyBytes >>= λ signature. done (Grammar.signed (record { counter = c; keySize = k; key = key; signature = signature }))
 
-signed-needs : Needs 4 Layout.signed
-unfolding Layout.signed
-signed-needs = number-needs 2 2 any _ λ c. number-needs 2 0 keyRule (keyAndSignature c) λ k. any-needs (keyAndSignature c k)
+module _ (t : List ℕ) (f : Field) (ef : f ≡ fieldAt t 0 2) where
+  abbrev signed : Extent
+  signed = extentOf (read Layout.signed t)
 
-module _ (t : List ℕ) where
-  abbrev keySize : ℕ
-  keySize = keySizeShown (valueOf (read Layout.signed t))
+  from-counter : Upto Layout.signed t 0 (number 2 any >>= λ c. number 2 keyRule >>= keyAndSignature c)
+  unfolding Layout.signed
+  from-counter = upto-start Layout.signed t
 
-  unsigned : valueOf (read Layout.signed t) ≡ none → 0 ≡ keySize
-  unsigned e = rw e
+  pub counter-outside : (x : ℕ) → f ≡ Outside x → Fault x ≡ signed
+  counter-outside x q = rw (number-outside Layout.signed t 0 2 any _ from-counter tt tt (omega arith) f ef x q)
 
-  pub key-short : length t < 4 → 0 ≡ keySize
-  key-short h = unsigned (signed-needs t h)
+  module _ (c : ℕ) (qc : f ≡ Number c) (g : Field) (eg : g ≡ fieldAt t 2 2) where
+    counter-fits : (c ≡ numberAt t 0 2) × (2 ≤ length t)
+    counter-fits = fitting t 0 2 tt tt f ef c qc
 
-  module _ (h : 4 ≤ length t) (n : ℕ) (en : n ≡ numberAt t 2 2) where
-    from-key-size : Upto Layout.signed t 2 (number 2 keyRule >>= keyAndSignature (numberAt t 0 2))
-    unfolding Layout.signed
-    from-key-size = number-holds Layout.signed t 0 2 any _ (upto-start Layout.signed t) tt tt refl (omega arith) refl
+    from-key-size : Upto Layout.signed t 2 (number 2 keyRule >>= keyAndSignature c)
+    from-key-size = number-holds Layout.signed t 0 2 any _ from-counter tt tt (counter-fits .0) (counter-fits .1) refl
 
-    key-wrong : keyRule (length t - 4) n ≡ false → 0 ≡ keySize
-    key-wrong o = unsigned (ap valueOf (number-wrong Layout.signed t 2 2 keyRule _ from-key-size tt tt en (omega arith) o))
+    pub key-size-outside : (x : ℕ) → g ≡ Outside x → Fault x ≡ signed
+    key-size-outside x q = rw (number-outside Layout.signed t 2 2 keyRule (keyAndSignature c) from-key-size tt tt (counter-fits .1) g eg x q)
 
-    pub key-unknown : (x : Bool) → x ≡ (eqb n 256 || eqb n 384) → not x ≡ true → 0 ≡ keySize
-    key-unknown x e q = key-wrong (rw (← e, not-true x q))
+    module _ (n : ℕ) (qn : g ≡ Number n) (x : Bool) (ex : x ≡ (eqb n 256 || eqb n 384)) where
+      key-size-fits : (n ≡ numberAt t 2 2) × (4 ≤ length t)
+      key-size-fits = fitting t 2 2 tt tt g eg n qn
 
-    pub key-over : length t - 4 < n + n → 0 ≡ keySize
-    key-over g = key-wrong (rw (lt-leb (n + n) (length t - 4) g) (and-false (eqb n 256 || eqb n 384)))
+      key-wrong : keyRule (length t - 4) n ≡ false → Fault 2 ≡ signed
+      key-wrong o = rw (number-wrong Layout.signed t 2 2 keyRule (keyAndSignature c) from-key-size tt tt (key-size-fits .0) (key-size-fits .1) o)
 
-    pub key-yes : (x : Bool) → x ≡ (eqb n 256 || eqb n 384) → not x ≡ false → n + n ≤ length t - 4 → n ≡ keySize
-    unfolding read
-    key-yes x e q g =
-        let o : keyRule (length t - 4) n ≡ true = rw (← e, not-false x q) (le-leb (n + n) (length t - 4) g) in
-        let u₄ = number-holds Layout.signed t 2 2 keyRule _ from-key-size tt tt en (omega arith) o in
-        let u₅ = string-holds Layout.signed t 4 n anyBytes _ u₄ (omega arith) refl in
-        let u₆ = string-holds Layout.signed t (4 + n) n anyBytes _ u₅ (omega arith) refl in
-        rw (u₆, value-after)
+      pub key-unknown : not x ≡ true → Fault 2 ≡ signed
+      key-unknown q = key-wrong (rw (← ex, not-true x q))
 
--- the signature that was read, where its key size is not 0
-record Signs (Y : List ℕ) (z : ℕ) : Type 0 where
-  pub signature : Signature
-  pub is-read : valueOf (read Layout.signed Y) ≡ some (Grammar.signed signature)
-  pub key-sized : signature .keySize ≡ z
-  pub counted : signature .counter ≡ Number.number 2 Y
-  pub some-key : 0 < z
+      pub key-over : length t < 4 + n + n → Fault 2 ≡ signed
+      key-over l = key-wrong (rw (lt-leb (n + n) (length t - 4) (omega (arith, key-size-fits .1))) (and-false (eqb n 256 || eqb n 384)))
 
-signs : (Y : List ℕ) → Bytes Y → (z : ℕ) → z ≡ keySizeShown (valueOf (read Layout.signed Y)) → ((z ≡ 0) × (valueOf (read Layout.signed Y) ≡ none)) ⊎ Signs Y z
-signs Y b z e = go (read Layout.signed Y) refl
-  where
-    go : (r : Read Signing) → read Layout.signed Y ≡ r → ((z ≡ 0) × (valueOf (read Layout.signed Y) ≡ none)) ⊎ Signs Y z
-    go (fault p) q = inl (e ∙ rw q, rw q)
-    go (value Grammar.unsigned n) q = absurd (omega (arith, reads-sound signingBytes (ValidSigning 0x0014) Layout.signed signed-sound Y Grammar.unsigned n b q .0))
-    go (value (Grammar.signed g) n) q =
-        let (v, l, w) = reads-sound signingBytes (ValidSigning 0x0014) Layout.signed signed-sound Y (Grammar.signed g) n b q in
-        let k : g .keySize ≡ z = sym (e ∙ rw q) in
-        inr (record {
-          signature = g;
-          is-read = rw q;
-          key-sized = k;
-          counted = rw (← w) (sym (rw append-assoc (number-bytes 2 (g .counter) _ (v .1 .counter-fits))));
-          some-key = ⊎-elim (λ i. omega arith) (λ i. omega arith) (v .1 .key-size-known);
-        })
-
-module _ (t : List ℕ) (start version end : ℕ) (l : end ≤ length t) (b : (i : ℕ) → Fits w8 (getD t i 0)) (z : ℕ) (ez : z ≡ keySizeShown (valueOf (read Layout.signed (take (length t - end) (drop end t))))) where
-  cases : ((z ≡ 0) × (valueOf (read Layout.signed (drop end t)) ≡ none)) ⊎ Signs (drop end t) z
-  cases = signs (drop end t) (bytes-drop end t (λ i. b i .fits)) z (rw from-offset at ez)
-
-  pub signed-absent : z ≡ 0 → lists.Absent ≡ signedShown start version (end - 8) (valueOf (read Layout.signed (drop end t)))
-  signed-absent h = ⊎-elim (λ w. rw (w .1)) (λ w. absurd (omega (arith, w .some-key))) cases
-
-  pub signed-yes : 8 ≤ end → (z ≡ 0 → ⊥) → z + z ≤ length (take (length t - end) (drop end t)) - 4 → (c : ℕ) → c ≡ numberAt t end 2
-      → lists.Signed start (end + 4 + z + z) version (start + 8) (end - 8) c z (start + end + 4) (start + end + 4 + z) ≡ signedShown start version (end - 8) (valueOf (read Layout.signed (drop end t)))
-  signed-yes l₈ h f c ec = ⊎-elim (λ w. absurd (h (w .0))) yes cases
-    where
-      yes : Signs (drop end t) z
-          → lists.Signed start (end + 4 + z + z) version (start + 8) (end - 8) c z (start + end + 4) (start + end + 4 + z) ≡ signedShown start version (end - 8) (valueOf (read Layout.signed (drop end t)))
-      yes w =
-          let i : 8 + (end - 8) ≡ end = omega arith in
-          let u : z + z ≤ length t - end - 4 = rw (from-offset, length-drop) at f in
-          let q : w .signature .counter ≡ c = w .counted ∙ at-offset t end 2 tt tt ec (omega (arith, w .some-key)) in
-          rw (w .is-read, i, w .key-sized, q)
+      pub key-yes : not x ≡ false → 4 + n + n ≤ length t → Size (4 + n + n) ≡ signed
+      unfolding read after
+      key-yes q l =
+          let o : keyRule (length t - 4) n ≡ true = rw (← ex, not-false x q) (le-leb (n + n) (length t - 4) (omega arith)) in
+          let u₄ = number-holds Layout.signed t 2 2 keyRule (keyAndSignature c) from-key-size tt tt (key-size-fits .0) (key-size-fits .1) o in
+          let u₅ = string-holds Layout.signed t 4 n anyBytes _ u₄ (omega arith) refl in
+          let u₆ = string-holds Layout.signed t (4 + n) n anyBytes _ u₅ (omega arith) refl in
+          rw u₆ (ap Size (omega arith))
 
 -- a list's elements and what signs it
 abbrev versionRule : ℕ → ℕ → Bool
@@ -140,84 +109,84 @@ signingOf v a n es = Layout.signing a >>= λ g. done (listOf v a n es g)
 abbrev elementsOf : ℕ → ℕ → ℕ → Format PolicyList
 elementsOf v a n = inside n (many n Layout.element) >>= signingOf v a n
 
-pub list-needs : Needs 8 Layout.list
-unfolding Layout.list
-list-needs = number-needs 2 6 versionRule _ λ v. number-needs 2 4 algorithmRule _ λ a. number-needs 4 0 sizeRule (elementsOf v a) λ n. any-needs (elementsOf v a n)
+module _ (t : List ℕ) (f : Field) (ef : f ≡ fieldAt t 0 2) where
+  abbrev listed : Extent
+  listed = extentOf (read Layout.list t)
 
-module _ (t : List ℕ) (start : ℕ) where
-  abbrev shown : ListAnswer
-  shown = listShown start (valueOf (Decode.list t))
+  from-version : Upto Layout.list t 0 (number 2 versionRule >>= λ v. number 2 algorithmRule >>= λ a. number 4 sizeRule >>= elementsOf v a)
+  unfolding Layout.list
+  from-version = upto-start Layout.list t
 
-  absent : valueOf (Decode.list t) ≡ none → lists.Absent ≡ shown
-  absent e = rw e
+  pub version-outside : (x : ℕ) → f ≡ Outside x → Fault x ≡ listed
+  version-outside x q = rw (number-outside Layout.list t 0 2 versionRule _ from-version tt tt (omega arith) f ef x q)
 
-  wrong : {p : ℕ} → Decode.list t ≡ fault p → lists.Absent ≡ shown
-  wrong e = rw e
+  module _ (v : ℕ) (qv : f ≡ Number v) (x : Bool) (ex : x ≡ (eqb v 0x0200 || eqb v 0x0201)) where
+    version-fits : (v ≡ numberAt t 0 2) × (2 ≤ length t)
+    version-fits = fitting t 0 2 tt tt f ef v qv
 
-  pub list-short : length t < 8 → lists.Absent ≡ shown
-  list-short h = absent (list-needs t h)
+    pub version-unknown : not x ≡ true → Fault 0 ≡ listed
+    version-unknown q = rw (number-wrong Layout.list t 0 2 versionRule _ from-version tt tt (version-fits .0) (version-fits .1) (rw (← ex) (not-true x q)))
 
-  module _ (h : 8 ≤ length t) (v a n : ℕ) (ev : v ≡ numberAt t 0 2) (ea : a ≡ numberAt t 2 2) (en : n ≡ numberAt t 4 4) (x : Bool) (ex : x ≡ (eqb v 0x0200 || eqb v 0x0201)) where
-    from-version : Upto Layout.list t 0 (number 2 versionRule >>= λ v. number 2 algorithmRule >>= λ a. number 4 sizeRule >>= elementsOf v a)
-    unfolding Layout.list
-    from-version = upto-start Layout.list t
-
-    pub list-version : not x ≡ true → lists.Absent ≡ shown
-    list-version q = wrong (number-wrong Layout.list t 0 2 versionRule _ from-version tt tt ev (omega arith) (rw (← ex) (not-true x q)))
-
-    module _ (hx : not x ≡ false) (y : Bool) (ey : y ≡ (eqb a 0x0010 || eqb a 0x0014)) where
+    module _ (hx : not x ≡ false) (g : Field) (eg : g ≡ fieldAt t 2 2) where
       from-algorithm : Upto Layout.list t 2 (number 2 algorithmRule >>= λ a. number 4 sizeRule >>= elementsOf v a)
-      from-algorithm = number-holds Layout.list t 0 2 versionRule _ from-version tt tt ev (omega arith) (rw (← ex) (not-false x hx))
+      from-algorithm = number-holds Layout.list t 0 2 versionRule _ from-version tt tt (version-fits .0) (version-fits .1) (rw (← ex) (not-false x hx))
 
-      pub list-algorithm : not y ≡ true → lists.Absent ≡ shown
-      list-algorithm q = wrong (number-wrong Layout.list t 2 2 algorithmRule _ from-algorithm tt tt ea (omega arith) (rw (← ey) (not-true y q)))
+      pub algorithm-outside : (z : ℕ) → g ≡ Outside z → Fault z ≡ listed
+      algorithm-outside z q = rw (number-outside Layout.list t 2 2 algorithmRule _ from-algorithm tt tt (version-fits .1) g eg z q)
 
-      module _ (hy : not y ≡ false) where
-        from-size : Upto Layout.list t 4 (number 4 sizeRule >>= elementsOf v a)
-        from-size = number-holds Layout.list t 2 2 algorithmRule _ from-algorithm tt tt ea (omega arith) (rw (← ey) (not-false y hy))
+      module _ (a : ℕ) (qa : g ≡ Number a) (y : Bool) (ey : y ≡ (eqb a 0x0010 || eqb a 0x0014)) where
+        algorithm-fits : (a ≡ numberAt t 2 2) × (4 ≤ length t)
+        algorithm-fits = fitting t 2 2 tt tt g eg a qa
 
-        pub list-over : length t - 8 < n → lists.Absent ≡ shown
-        list-over g = wrong (number-wrong Layout.list t 4 4 sizeRule _ from-size tt tt en (omega arith) (lt-leb n (length t - 8) g))
+        pub algorithm-unknown : not y ≡ true → Fault 2 ≡ listed
+        algorithm-unknown q = rw (number-wrong Layout.list t 2 2 algorithmRule _ from-algorithm tt tt (algorithm-fits .0) (algorithm-fits .1) (rw (← ey) (not-true y q)))
 
-        module _ (l : n ≤ length t - 8) (w : Bool) (ew : w ≡ fills (many (length (take (8 + n - 8) (drop 8 t))) Layout.element) (take (8 + n - 8) (drop 8 t))) where
-          from-elements : Upto Layout.list t 8 (elementsOf v a n)
-          from-elements = number-holds Layout.list t 4 4 sizeRule _ from-size tt tt en (omega arith) (le-leb n (length t - 8) l)
+        module _ (hy : not y ≡ false) (h : Field) (eh : h ≡ fieldAt t 4 4) where
+          from-size : Upto Layout.list t 4 (number 4 sizeRule >>= elementsOf v a)
+          from-size = number-holds Layout.list t 2 2 algorithmRule _ from-algorithm tt tt (algorithm-fits .0) (algorithm-fits .1) (rw (← ey) (not-false y hy))
 
-          abbrev part : List ℕ
-          part = take n (drop 8 t)
+          pub size-outside : (z : ℕ) → h ≡ Outside z → Fault z ≡ listed
+          size-outside z q = rw (number-outside Layout.list t 4 4 sizeRule (elementsOf v a) from-size tt tt (algorithm-fits .1) h eh z q)
 
-          part-length : length part ≡ n
-          part-length = length-take-le n (drop 8 t) (rw length-drop (omega arith))
+          module _ (n : ℕ) (qn : h ≡ Number n) where
+            size-fits : (n ≡ numberAt t 4 4) × (8 ≤ length t)
+            size-fits = fitting t 4 4 tt tt h eh n qn
 
-          w-is : fills (many n Layout.element) part ≡ w
-          w-is =
-              let i : 8 + n - 8 ≡ n = omega arith in
-              sym (ew ∙ rw (i, part-length))
+            pub size-over : length t < 8 + n → Fault 4 ≡ listed
+            size-over l = rw (number-wrong Layout.list t 4 4 sizeRule (elementsOf v a) from-size tt tt (size-fits .0) (size-fits .1) (lt-leb n (length t - 8) (omega (arith, size-fits .1))))
 
-          pub list-unfilled : not w ≡ true → lists.Absent ≡ shown
-          list-unfilled q =
-              let e = fills-none (many n Layout.element) part (w-is ∙ not-true w q) in
-              absent (part-none Layout.list t 8 n (many n Layout.element) (signingOf v a n) from-elements (rw part-length at e))
+            module _ (l : 8 + n ≤ length t) (w : Extent) (ew : w ≡ extentOf (filling (many (length (take (8 + n - 8) (drop 8 t))) Layout.element) (take (8 + n - 8) (drop 8 t)))) where
+              from-elements : Upto Layout.list t 8 (elementsOf v a n)
+              from-elements = number-holds Layout.list t 4 4 sizeRule (elementsOf v a) from-size tt tt (size-fits .0) (size-fits .1) (le-leb n (length t - 8) (omega arith))
 
-          module _ (hw : not w ≡ false) where
-            filled : (es : List Element) × Stands (many n Layout.element) es part []
-            filled = fills-with (many n Layout.element) part (w-is ∙ not-false w hw)
+              abbrev part : List ℕ
+              part = take n (drop 8 t)
 
-            to-signing : valueOf (Decode.list t) ≡ Option·map (listOf v a n (filled .0)) (valueOf (read (Layout.signing a) (drop (8 + n) t)))
-            to-signing =
-                let e : exactly n (read (many n Layout.element) part) ≡ value (filled .0) n = rw part-length at (filling-value (many n Layout.element) part (filled .0) (filled .1)) in
-                last-value Layout.list t (8 + n) (Layout.signing a) (listOf v a n (filled .0)) (part-holds Layout.list t 8 n (many n Layout.element) (signingOf v a n) from-elements (filled .0) e)
+              part-length : length part ≡ n
+              part-length = length-take-le n (drop 8 t) (rw length-drop (omega arith))
 
-            with-signing : (o : Option Signing) → listShown start (Option·map (listOf v a n (filled .0)) o) ≡ signedShown start v n o
-            with-signing none = refl
-            with-signing (some g) = refl
+              w-is : extentOf (exactly n (read (many n Layout.element) part)) ≡ w
+              w-is =
+                  let i : 8 + n - 8 ≡ n = omega arith in
+                  sym (ew ∙ rw (i, part-length))
 
-            pub list-signed : a ≡ 0x0014 → (r : ListAnswer) → r ≡ signedShown start v (8 + n - 8) (valueOf (read Layout.signed (drop (8 + n) t))) → r ≡ shown
-            unfolding Layout.signing
-            list-signed e r q =
-                let i : 8 + n - 8 ≡ n = omega arith in
-                q ∙ rw i (sym (ap (listShown start) to-signing ∙ rw (eq-eqb a 0x0014 e) (with-signing (valueOf (read Layout.signed (drop (8 + n) t))))))
+              pub elements-faulty : (p : ℕ) → w ≡ Fault p → Fault (8 + p) ≡ listed
+              elements-faulty p q =
+                  rw (part-wrong Layout.list t 8 n (many n Layout.element) (signingOf v a n) from-elements p (fault-read (exactly n (read (many n Layout.element) part)) p (w-is ∙ q)))
 
-            pub list-unsigned : (a ≡ 0x0014 → ⊥) → lists.Unsigned start (8 + n) v (start + 8) n ≡ shown
-            unfolding Layout.signing read
-            list-unsigned e = sym (ap (listShown start) to-signing ∙ rw (ne-eqb a 0x0014 e))
+              module _ (k : ℕ) (qw : w ≡ Size k) where
+                to-signing : listed ≡ further (8 + n) (extentOf (read (Layout.signing a) (drop (8 + n) t)))
+                to-signing =
+                    let (es, e) = size-read (exactly n (read (many n Layout.element) part)) k (w-is ∙ qw) in
+                    let i : k ≡ n = exactly-value es k n (read (many n Layout.element) part) e .1 in
+                    last-extent Layout.list t (8 + n) (Layout.signing a) (listOf v a n es)
+                    (part-holds Layout.list t 8 n (many n Layout.element) (signingOf v a n) from-elements es (e ∙ ap (value es) i))
+
+                pub list-signed : a ≡ 0x0014 → (u : Extent) → u ≡ extentOf (read Layout.signed (take (length t - (8 + n)) (drop (8 + n) t))) → (r : Extent) → r ≡ further (8 + n) u → r ≡ listed
+                unfolding Layout.signing
+                list-signed e u q r o =
+                    o ∙ ap (further (8 + n)) (q ∙ ap (λ (s : List ℕ). extentOf (read Layout.signed s)) (from-offset t (8 + n))) ∙ sym (to-signing ∙ rw (eq-eqb a 0x0014 e))
+
+                pub list-unsigned : (a ≡ 0x0014 → ⊥) → Size (8 + n) ≡ listed
+                unfolding Layout.signing read
+                list-unsigned e = sym (to-signing ∙ rw (ne-eqb a 0x0014 e) (ap Size (omega arith)))

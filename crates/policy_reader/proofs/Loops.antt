@@ -4,13 +4,11 @@ use Prim.Native.Nat.{ℕ, _+_, _-_, _≤_, _<_, _^_}
 use native.Mathlib.Omega.{arith}
 use mathlib.Core.Path.{_≡_, ap, sym, _∙_}
 use mathlib.Core.Logic.{⊎-elim}
-use mathlib.Core.List.{List, [], _∷_, _++_, flatMap}
+use mathlib.Core.List.{List, _∷_, flatMap}
 use mathlib.Core.Option.{none}
-use lib.ListN.{length, getD, drop, getElem?, length-drop, drop-of-length-le}
-use lib.Seq.{drop-drop}
+use lib.ListN.{length, getD, drop, getElem?}
 use mir.Val.{Fits}
 use mir.Syntax.{w8}
-use Rattle.field.proofs.Laws.{bytes-drop}
 use Rattle.policy_grammar.specs.Grammar.{All}
 use Rattle.policy_grammar.specs.Parser.{value, valueOf}
 use Rattle.policy_answers.specs.Answers.{place}
@@ -84,45 +82,3 @@ pub this-has : (κ : Kind) (s : List ℕ) (start at j k : ℕ) (e : κ .Answer) 
 this-has κ s start at j k e q l u inv xs v d =
     let i : k ≡ j = omega arith in
     rw (← i) (q ∙ rw (reached κ s start at k inv xs v d) (ap (λ (n : ℕ). κ .shown n (getElem? xs k)) (inv xs v d .1)))
-
--- whatever stands from the offset on, with k more before it the string is filled
-abbrev pub Behind : (κ : Kind) → List ℕ → ℕ → ℕ → Type 0
-Behind κ s at k =
-    (xs : List (κ .Value)) → All (κ .Valid) xs → drop at s ≡ flatMap (κ .make) xs
-    → (ys : List (κ .Value)) × All (κ .Valid) ys × (length ys ≡ k + length xs) × (s ≡ flatMap (κ .make) ys)
-
-abbrev pub Run : (κ : Kind) → List ℕ → ℕ → ℕ → Type 0
-Run κ s at k = Passed κ s 0 at k × Behind κ s at k
-
-pub run-start : (κ : Kind) (s : List ℕ) → Run κ s 0 0
-run-start κ s = (none-passed κ s 0, λ xs v e. (xs, v, omega arith, e))
-
-pub run-on : (κ : Kind) (s : List ℕ) (at : ℕ) (b : (i : ℕ) → Fits w8 (getD s i 0)) (e : κ .Answer) (z : ℕ) → e ≡ κ .shown at (valueOf (κ .parser (drop at s))) → z ≡ κ .size e
-    → (z ≡ 0 → ⊥) → (k : ℕ) → Run κ s at k → Run κ s (at + z) (k + 1)
-unfolding flatMap
-run-on κ s at b e z ee ez h k (p, q) =
-    let (a, r, _, _) = stands κ s at b e z ee ez h in
-    let (v, l, d) = κ .sound (drop at s) a z (bytes-drop at s (λ i. b i .fits)) r in (
-      passed-one κ s 0 at k p a z r,
-      λ xs w i. (let (ys, u, n, m) = q (a ∷ xs) (v, w) (sym d ∙ ap (λ (x : List ℕ). κ .make a ++ x) (drop-drop z at s ∙ i)) in (ys, u, omega arith, m)),
-    )
-
--- the string is filled by valid values, and by how many
-module _ (κ : Kind) (s : List ℕ) (at k : ℕ) (run : Run κ s at k) where
-  pub run-end : length s ≤ at → (ys : List (κ .Value)) × All (κ .Valid) ys × (length ys ≡ k) × (s ≡ flatMap (κ .make) ys)
-  unfolding flatMap
-  run-end h = let (ys, v, n, e) = run .1 [] tt (drop-of-length-le s h) in (ys, v, omega arith, e)
-
-  -- nothing is read at the offset, so it is filled by no more than k, and only where it ends there
-  pub run-stops : valueOf (κ .parser (drop at s)) ≡ none → (ys : List (κ .Value)) → All (κ .Valid) ys → s ≡ flatMap (κ .make) ys → (drop at s ≡ []) × (length ys ≤ k)
-  unfolding flatMap
-  run-stops q ys v e =
-      ⊎-elim
-      (λ c. (run .0 ys v e .0 ∙ ap (flatMap (κ .make)) (c .0), omega (arith, length-drop k ys, ap length (c .0))))
-      (λ (c : Cut (κ .make) ys k). (let r = reached κ s 0 at k (run .0) ys v e in let i = c .is in let o : _≡_ {A = ℕ} 0 1 = cc in absurd (omega arith)))
-      (cut (κ .make) ys k)
-
-  -- k values fill the string only where it ends at the offset
-  pub run-counts : (ys : List (κ .Value)) → All (κ .Valid) ys → length ys ≡ k → s ≡ flatMap (κ .make) ys → drop at s ≡ []
-  unfolding flatMap
-  run-counts ys v n e = run .0 ys v e .0 ∙ rw (drop-of-length-le ys {i = k} (omega arith))

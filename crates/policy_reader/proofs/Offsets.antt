@@ -4,7 +4,7 @@ use native.Mathlib.Omega.{arith}
 use mathlib.Core.Path.{_≡_, refl, ap, sym, _∙_}
 use mathlib.Core.List.{List}
 use mathlib.Core.Option.{Option, some, none}
-use lib.ListN.{length, getD, take, drop, length-drop}
+use lib.ListN.{length, getD, take, drop, drop-of-length-le}
 use mir.Val.{Fits}
 use mir.Syntax.{w8}
 use Rattle.field.proofs.Laws.{bytes-drop}
@@ -19,8 +19,6 @@ use Rattle.policy_answers.specs.declared.ListAnswer.the-variants as lists
 use Rattle.policy_answers.specs.declared.ElementAnswer.{ElementAnswer}
 use Rattle.policy_answers.specs.declared.ElementAnswer.the-variants as elements
 use Rattle.field.proofs.Laws.{from-offset}
-use Rattle.policy_reader.proofs.ElementTests.{element-short}
-use Rattle.policy_reader.proofs.ListTests.{list-short}
 use Rattle.policy_reader.proofs.Standing.{Kind, list, element}
 use Rattle.policy_reader.proofs.Seen.{list-seen, element-seen}
 
@@ -52,14 +50,17 @@ module _ (s : List ℕ) (at : ℕ) (b : (i : ℕ) → Fits w8 (getD s i 0)) wher
       go (some x) h q = record { element = some x; only = h; places = q; seen = ap (seenElement s) q ∙ element-seen s at x (h .0) }
 
   -- past the string there is none, and elsewhere it is the one at the front of what is left
+  none-past : (κ : Kind) → length s < at → valueOf (κ .parser (drop at s)) ≡ none
+  none-past κ h = rw (drop-of-length-le s {i = at} (omega arith)) (κ .ends)
+
   pub list-past : length s < at → (lists.Absent ≡ listShown at (valueOf (Decode.list (drop at s)))) × ListAtExactly s at lists.Absent
-  list-past h = let e = list-short (drop at s) at (rw length-drop (omega arith)) in (e, list-exactly lists.Absent e)
+  list-past h = let e : lists.Absent ≡ listShown at (valueOf (Decode.list (drop at s))) = ap (listShown at) (sym (none-past list h)) in (e, list-exactly lists.Absent e)
 
   pub list-front : (r : ListAnswer) → r ≡ listShown at (valueOf (Decode.list (take (length s - at) (drop at s)))) → (r ≡ listShown at (valueOf (Decode.list (drop at s)))) × ListAtExactly s at r
   list-front r q = let e = rw from-offset at q in (e, list-exactly r e)
 
   pub element-past : length s < at → (elements.Refused ≡ elementShown at (valueOf (Decode.element (drop at s)))) × ElementAtExactly s at elements.Refused
-  element-past h = let e = element-short (drop at s) at (rw length-drop (omega arith)) in (e, element-exactly elements.Refused e)
+  element-past h = let e : elements.Refused ≡ elementShown at (valueOf (Decode.element (drop at s))) = ap (elementShown at) (sym (none-past element h)) in (e, element-exactly elements.Refused e)
 
   pub element-front : (r : ElementAnswer) → r ≡ elementShown at (valueOf (Decode.element (take (length s - at) (drop at s)))) → (r ≡ elementShown at (valueOf (Decode.element (drop at s)))) × ElementAtExactly s at r
   element-front r q = let e = rw from-offset at q in (e, element-exactly r e)

@@ -9,14 +9,15 @@ use mathlib.Core.List.{List, [], _∷_, _++_, flatMap}
 use mathlib.Core.Option.{Option, some, none}
 use lib.ListN.{length, getD, drop, length-drop, length-append}
 use lib.Seq.{drop-drop, drop-append-seam}
-use lib.Dec.{eqb, lit<}
+use lib.Dec.{eqb}
 use mir.Val.{Fits}
 use mir.Syntax.{w8}
 use Rattle.field.specs.Number.{Bytes}
 use Rattle.field.proofs.Laws.{bytes-drop, length-bytes}
 use Rattle.policy_grammar.specs.Grammar.{All, Body, customType, Element, elementBytes, ValidElement, Signing, ValidSigning, signingBytes, PolicyList, listBytes, ValidList}
 use Rattle.policy_grammar.specs.Grammar as Grammar
-use Rattle.policy_grammar.specs.Parser.{Read, value, fault, valueOf, Parser}
+use Rattle.policy_grammar.specs.Format.{_>>=_, number}
+use Rattle.policy_grammar.specs.Parser.{Read, value, fault, valueOf, Parser, read}
 use Rattle.policy_grammar.specs.Layout as Layout
 use Rattle.policy_grammar.specs.Decode as Decode
 use Rattle.policy_answers.specs.Answers.{bodyShown, elementShown, elementSize, signingShown, listShown, listSize}
@@ -26,8 +27,6 @@ use Rattle.policy_answers.specs.declared.ListAnswer.{ListAnswer}
 use Rattle.policy_answers.specs.declared.ListAnswer.the-variants.{Absent}
 use Rattle.policy_grammar.proofs.Soundness.{reads-sound, reads-complete}
 use Rattle.policy_grammar.proofs.Decoding.{element-sound, element-complete, element-length, list-sound, list-complete}
-use Rattle.policy_reader.proofs.ElementTests.{element-needs}
-use Rattle.policy_reader.proofs.ListTests.{list-needs}
 
 pub record Kind : Type 1 where
   pub Value : Type 0
@@ -107,6 +106,10 @@ size-shown start e = go (e .body)
     go (Grammar.stm d) = refl
     go (Grammar.other b) = on (eqb (e .type) customType)
 
+pub no-element : valueOf (Decode.element []) ≡ none
+unfolding Layout.element number _>>=_ read
+no-element = refl
+
 abbrev pub element : Kind
 element =
     record {
@@ -116,7 +119,7 @@ element =
       parser = Decode.element;
       sound = reads-sound elementBytes ValidElement Layout.element element-sound;
       complete = reads-complete elementBytes ValidElement Layout.element element-complete;
-      ends = element-needs [] (lit< tt);
+      ends = no-element;
       Answer = ElementAnswer;
       shown = elementShown;
       missing = Refused;
@@ -136,6 +139,10 @@ list-length start l v =
     go Grammar.unsigned h = omega arith
     go (Grammar.signed g) h = simp (length-append, length-bytes) (omega (arith, h .1 .key-sized, h .1 .signature-sized))
 
+pub no-list : valueOf (Decode.list []) ≡ none
+unfolding Layout.list number _>>=_ read
+no-list = refl
+
 abbrev pub list : Kind
 list =
     record {
@@ -145,7 +152,7 @@ list =
       parser = Decode.list;
       sound = reads-sound listBytes ValidList Layout.list list-sound;
       complete = reads-complete listBytes ValidList Layout.list list-complete;
-      ends = list-needs [] (lit< tt);
+      ends = no-list;
       Answer = ListAnswer;
       shown = listShown;
       missing = Absent;

@@ -3,7 +3,7 @@
 -- Where it starts, what stands at an offset, the next offset, and the end; each for elements and for lists, the kinds `element` and `list`.
 use Prim.Native.Nat.{ℕ, _+_, _≤_, _<_}
 use native.Mathlib.Omega.{arith}
-use mathlib.Core.Path.{_≡_, refl, ap, sym, _∙_}
+use mathlib.Core.Path.{_≡_, refl, ap, _∙_}
 use mathlib.Core.Bool.{and-eq-true-iff}
 use mathlib.Core.List.{List, [], _∷_, flatMap}
 use mathlib.Core.Option.{some}
@@ -16,7 +16,7 @@ use Rattle.policy_grammar.specs.Decode.{accepted}
 use Rattle.policy_answers.specs.Answers.{elementShown, listShown}
 use Rattle.policy_answers.specs.Seen.{seenList, listPart, seenElement}
 use Rattle.policy_reader.specs.Offsets.{StandsAt}
-use Rattle.policy_reader.proofs.Standing.{Kind, here, next, inside, at-end}
+use Rattle.policy_reader.proofs.Standing.{Kind, here, next, inside}
 use Rattle.policy_reader.proofs.Places.{accepted-sound, lists-stand, elements-part, elements-fit}
 use Rattle.policy_answers.proofs.Slices.{drop-take}
 use Rattle.policy_reader.proofs.Seen as Seen

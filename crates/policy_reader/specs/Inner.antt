@@ -1,23 +1,20 @@
 -- What the contracts of functions cite that are not public.
-use Prim.Native.Nat.{ℕ}
-use mathlib.Core.Option.{Option, some, none}
-use Rattle.policy_answers.specs.declared.ListAnswer.{ListAnswer}
-use Rattle.policy_answers.specs.declared.ListAnswer.the-variants as lists
-use Rattle.policy_grammar.specs.Grammar.{Body, Element, Signing}
-use Rattle.policy_grammar.specs.Grammar as Grammar
-use Rattle.policy_answers.specs.Answers.{signingShown}
+use Prim.Native.Nat.{ℕ, _+_}
+use Rattle.policy_grammar.specs.Parser.{Read, value, fault}
+use Rattle.policy_reader.specs.declared.Extent.{Extent}
+use Rattle.policy_reader.specs.declared.Extent.the-variants as extents
 
--- the element of a body
-abbrev pub withBody : ℕ → ℕ → ℕ → Body → Element
-withBody size type control b = record { size = size; type = type; control = control; body = b }
+-- how many bytes were read, or the offset of the fault
+abbrev pub extentOf : {A : Type 0} → Read A → Extent
+extentOf (value a n) = extents.Size n
+extentOf (fault p) = extents.Fault p
 
--- the key size of what signs a list, 0 where nothing does
-abbrev pub keySizeShown : Option Signing → ℕ
-keySizeShown none = 0
-keySizeShown (some Grammar.unsigned) = 0
-keySizeShown (some (Grammar.signed g)) = g .keySize
+-- what is read n bytes on
+abbrev pub further : ℕ → Extent → Extent
+further n (extents.Size k) = extents.Size (n + k)
+further n (extents.Fault p) = extents.Fault (n + p)
 
--- a list of which what signs it was read
-abbrev pub signedShown : ℕ → ℕ → ℕ → Option Signing → ListAnswer
-signedShown start version n none = lists.Absent
-signedShown start version n (some g) = signingShown start version n g
+-- how far was read
+abbrev pub end : Extent → ℕ
+end (extents.Size n) = n
+end (extents.Fault p) = p

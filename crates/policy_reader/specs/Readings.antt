@@ -1,4 +1,4 @@
--- The reading of a string by the grammar: the one from which the grammar makes it, or that there is none.
+-- The reading of a string by the grammar: the one from which the grammar makes it, or that there is none; and the place of its first fault.
 use Prim.Native.Nat.{ℕ, _≤_, _<_}
 use mathlib.Core.Path.{_≡_}
 use mathlib.Core.Logic.{_⊎_}
@@ -7,6 +7,8 @@ use mathlib.Core.Option.{Option, some, none}
 use lib.ListN.{length}
 use Rattle.policy_grammar.specs.Grammar.{Reading, Makes}
 use Rattle.policy_grammar.specs.Sizes.{leastFile, largestFile}
+use Rattle.policy_grammar.specs.Layout.{whole}
+use Rattle.policy_grammar.specs.Fault.{FirstFault}
 use Rattle.policy_answers.specs.declared.FileAnswer.{FileAnswer}
 use Rattle.policy_answers.specs.Answers.{fileShown}
 
@@ -21,8 +23,17 @@ pub record IsReadingOf (s : List ℕ) (o : Option Reading) : Type 0 where
   pub outside : (length s < leastFile) ⊎ (largestFile < length s) → o ≡ none
   pub one : (r r′ : Reading) → Makes r s → Makes r′ s → r ≡ r′
 
--- the answer is for the reading with which the string is accepted, if one is
+-- p is the place of a string with the reading o: where a string of 36 to 65,536 bytes has none, the offset of the first field at fault, which is one only
+-- (`OnePlace`), and for every other string 0
+pub record IsPlaceOf (s : List ℕ) (o : Option Reading) (p : ℕ) : Type 0 where
+  pub first : leastFile ≤ length s → length s ≤ largestFile → o ≡ none → FirstFault (whole (length s)) s p
+  pub outside : (length s < leastFile) ⊎ (largestFile < length s) → p ≡ 0
+  pub accepted : (r : Reading) → o ≡ some r → p ≡ 0
+
+-- the answer is for the reading with which the string is accepted, if one is, and else for the place of its first fault
 pub record ReadExactly (s : List ℕ) (answer : FileAnswer) : Type 0 where
   pub reading : Option Reading
   pub is : IsReadingOf s reading
-  pub shown : answer ≡ fileShown s reading
+  pub place : ℕ
+  pub is-place : IsPlaceOf s reading place
+  pub shown : answer ≡ fileShown s reading place

@@ -1,132 +1,90 @@
-// Elements: one that stands at an offset, and whether elements fill a part.
+// Elements, field by field in file order: how many bytes one takes, whether elements fill a part, or where the first fault is.
+use crate::Extent;
+use crate::extents::behind;
 use crate::numbers::number;
-use policy_answers::CUSTOM_TYPE;
-use policy_answers::ElementAnswer;
+use field::Field;
 use policy_answers::LAUNCH_TYPE;
 use policy_answers::STM_TYPE;
 use policy_answers::digest_length;
-use policy_answers::element_size;
 ghost use mathlib.Core.Path.{_≡_};
-ghost use mathlib.Core.Option.{Option·map};
-ghost use lib.ListN.{length, drop};
-ghost use Rattle.policy_grammar.specs.Grammar.{launchType, stmType};
+ghost use lib.ListN.{length};
 ghost use Rattle.policy_grammar.specs.Format.{many};
-ghost use Rattle.policy_grammar.specs.Parser.{valueOf, filling, fills};
+ghost use Rattle.policy_grammar.specs.Parser.{read, filling};
 ghost use Rattle.policy_grammar.specs.Layout as Layout;
-ghost use Rattle.policy_grammar.specs.Decode as Decode;
-ghost use Rattle.policy_answers.specs.Answers.{elementShown};
-ghost use Rattle.policy_reader.specs.Offsets.{ElementAtExactly};
-ghost use Rattle.policy_reader.specs.Inner.{withBody};
+ghost use Rattle.policy_reader.specs.Inner.{extentOf};
 
-// Whether t is the digests of an algorithm: HashAlg, a count, and exactly that many digests of its length.
-fn digests_fill(t: &[u8]) -> bool
-    ensures { λ r. ⌜ r ≡ fills Layout.digests (now (t .entry)) ⌝ }
+// The digests of an algorithm, which fill t: HashAlg, a count, and exactly that many digests of its length.
+fn digests_extent(t: &[u8]) -> Extent
+    ensures { λ r. ⌜ r ≡ extentOf (filling Layout.digests (now (t .entry))) ⌝ }
 {
-    if t.len() < 4 {
-        return false;
-    }
-    let length = digest_length(number(t, 0, 2));
+    let length = match field::read(t, 0, 2) {
+        Field::Number(alg) => digest_length(alg as usize),
+        Field::Outside(at) => return Extent::Fault(at),
+    };
     if length == 0 {
-        return false;
+        return Extent::Fault(0);
     }
-    t.len() - 4 == number(t, 2, 2) * length
+    let count = match field::read(t, 2, 2) {
+        Field::Number(n) => n as usize,
+        Field::Outside(at) => return Extent::Fault(at),
+    };
+    let end = 4 + count * length;
+    if t.len() < end {
+        return Extent::Fault(2);
+    }
+    if end < t.len() {
+        return Extent::Fault(end);
+    }
+    Extent::Size(end)
 }
 
-// The launch element at `start` that has the body b.
-fn launch(b: &[u8], start: usize, size: usize, control: usize) -> ElementAnswer
-    ensures { λ r. ⌜ r ≡ elementShown start (Option·map (withBody size launchType control) (valueOf (filling Layout.launch (now (b .entry))))) ⌝ }
+// The body of a launch element, which fills b: SINITMinVersion, a reserved byte, digests.
+fn launch_extent(b: &[u8]) -> Extent
+    ensures { λ r. ⌜ r ≡ extentOf (filling Layout.launch (now (b .entry))) ⌝ }
 {
-    if b.len() < 2 {
-        return ElementAnswer::Refused;
+    if let Field::Outside(at) = field::read(b, 0, 1) {
+        return Extent::Fault(at);
     }
-    if !digests_fill(&b[2..]) {
-        return ElementAnswer::Refused;
+    if let Field::Outside(at) = field::read(b, 1, 1) {
+        return Extent::Fault(at);
     }
-    ElementAnswer::Launch {
-        start,
-        size,
-        control,
-        sinit_min_version: number(b, 0, 1),
-        reserved: number(b, 1, 1),
-        hash_alg: number(b, 2, 2),
-        count: number(b, 4, 2),
-    }
+    behind(2, digests_extent(&b[2..]))
 }
 
-// The STM element at `start` that has the body b, which is digests alone.
-fn stm(b: &[u8], start: usize, size: usize, control: usize) -> ElementAnswer
-    ensures { λ r. ⌜ r ≡ elementShown start (Option·map (withBody size stmType control) (valueOf (filling Layout.stm (now (b .entry))))) ⌝ }
+// The element at the front of t. Its body is judged as the part of t that it is.
+pub(crate) fn element_extent(t: &[u8]) -> Extent
+    ensures { λ r. ⌜ r ≡ extentOf (read Layout.element (now (t .entry))) ⌝ }
 {
-    if !digests_fill(b) {
-        return ElementAnswer::Refused;
-    }
-    ElementAnswer::Stm {
-        start,
-        size,
-        control,
-        hash_alg: number(b, 0, 2),
-        count: number(b, 2, 2),
-    }
-}
-
-// The element at the front of t, which stands at `start`. Its body is judged as the part of t that it is.
-fn first_element(t: &[u8], start: usize) -> ElementAnswer
-    ensures { λ r. ⌜ r ≡ elementShown start (valueOf (Decode.element (now (t .entry)))) ⌝ }
-{
-    if t.len() < 12 {
-        return ElementAnswer::Refused;
-    }
-    let size = number(t, 0, 4);
+    let size = match field::read(t, 0, 4) {
+        Field::Number(n) => n as usize,
+        Field::Outside(at) => return Extent::Fault(at),
+    };
     if size < 12 {
-        return ElementAnswer::Refused;
+        return Extent::Fault(0);
     }
     if t.len() < size {
-        return ElementAnswer::Refused;
+        return Extent::Fault(0);
     }
     let kind = number(t, 4, 4);
-    let control = number(t, 8, 4);
     if kind == LAUNCH_TYPE {
-        return launch(&t[12..size], start, size, control);
+        return behind(12, launch_extent(&t[12..size]));
     }
     if kind == STM_TYPE {
-        return stm(&t[12..size], start, size, control);
+        return behind(12, digests_extent(&t[12..size]));
     }
-    if kind == CUSTOM_TYPE {
-        return ElementAnswer::Custom {
-            start,
-            size,
-            control,
-        };
-    }
-    ElementAnswer::Unjudged {
-        start,
-        size,
-        kind,
-        control,
-    }
+    Extent::Size(size)
 }
 
-// The element that stands at `at` in s.
-pub fn element_at(s: &[u8], at: usize) -> ElementAnswer
-    ensures { λ r. ⌜ (r ≡ elementShown at (valueOf (Decode.element (drop at (now (s .entry)))))) × ElementAtExactly (now (s .entry)) at r ⌝ }
-{
-    if s.len() < at {
-        return ElementAnswer::Refused;
-    }
-    first_element(&s[at..], at)
-}
-
-// Whether elements fill t.
-pub(crate) fn filled(t: &[u8]) -> bool
-    ensures { λ r. ⌜ r ≡ fills (many (length (now (t .entry))) Layout.element) (now (t .entry)) ⌝ }
+// The elements that fill t.
+pub(crate) fn elements_extent(t: &[u8]) -> Extent
+    ensures { λ r. ⌜ r ≡ extentOf (filling (many (length (now (t .entry))) Layout.element) (now (t .entry))) ⌝ }
 {
     let mut at = 0;
     while at < t.len() {
-        let size = element_size(element_at(t, at));
-        if size == 0 {
-            return false;
+        match element_extent(&t[at..]) {
+            Extent::Size(size) => at += size,
+            Extent::Fault(p) => return Extent::Fault(at + p),
         }
-        at += size;
     }
-    true
+    Extent::Size(at)
 }

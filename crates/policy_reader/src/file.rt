@@ -1,21 +1,27 @@
-// The number of a string.
+// The number of a string, and the place of its first fault.
+use crate::Extent;
 use crate::FIRST_LIST;
 use crate::LARGEST_FILE;
 use crate::LEAST_FILE;
-use crate::lists::lists_fill;
+use crate::lists::lists_extent;
 use crate::numbers::number;
 use policy_answers::FileAnswer;
 ghost use mathlib.Core.Path.{_≡_};
-ghost use Rattle.policy_grammar.specs.Decode.{accepted};
+ghost use Rattle.policy_grammar.specs.Decode.{accepted, faultPlace};
 ghost use Rattle.policy_answers.specs.Answers.{fileShown};
 ghost use Rattle.policy_reader.specs.Readings.{ReadExactly};
 
 // The most lists of a file.
 const MOST_LISTS: usize = 8;
 
-// The answer for s, by the tests in file order.
+// The offsets of the zeros behind the mark, and of the list count.
+const ZEROS: usize = 32;
+
+const LIST_COUNT: usize = 35;
+
+// The answer for s, field by field in file order. A string of the least size has all the fields before its lists.
 fn tested(s: &[u8]) -> FileAnswer
-    ensures { λ r. ⌜ r ≡ fileShown (now (s .entry)) (accepted (now (s .entry))) ⌝ }
+    ensures { λ r. ⌜ r ≡ fileShown (now (s .entry)) (accepted (now (s .entry))) (faultPlace (now (s .entry))) ⌝ }
 {
     if s.len() < LEAST_FILE {
         return FileAnswer::WrongSize;
@@ -24,27 +30,29 @@ fn tested(s: &[u8]) -> FileAnswer
         return FileAnswer::WrongSize;
     }
     if !field::marked(s, 0, b"Intel(R) TXT LCP_POLICY_DATA\0\0\0\0") {
-        return FileAnswer::NotOfGrammar;
+        return FileAnswer::NotOfGrammar { place: 0 };
     }
-    if !field::marked(s, 32, b"\0\0\0") {
-        return FileAnswer::NotOfGrammar;
+    if !field::marked(s, ZEROS, b"\0\0\0") {
+        return FileAnswer::NotOfGrammar { place: ZEROS };
     }
-    let lists = number(s, 35, 1);
+    let lists = number(s, LIST_COUNT, 1);
     if lists < 1 {
-        return FileAnswer::NotOfGrammar;
+        return FileAnswer::NotOfGrammar { place: LIST_COUNT };
     }
     if MOST_LISTS < lists {
-        return FileAnswer::NotOfGrammar;
+        return FileAnswer::NotOfGrammar { place: LIST_COUNT };
     }
-    if !lists_fill(&s[FIRST_LIST..], lists) {
-        return FileAnswer::NotOfGrammar;
+    match lists_extent(&s[FIRST_LIST..], lists) {
+        Extent::Size(_) => FileAnswer::Accepted { lists },
+        Extent::Fault(p) => FileAnswer::NotOfGrammar {
+            place: FIRST_LIST + p,
+        },
     }
-    FileAnswer::Accepted { lists }
 }
 
-// What the string s is: of a wrong size, not of the grammar, or accepted with the number of its lists.
+// What the string s is: of a wrong size, not of the grammar, with the offset of the first field at fault, or accepted with the number of its lists.
 pub fn read(s: &[u8]) -> FileAnswer
-    ensures { λ r. ⌜ (r ≡ fileShown (now (s .entry)) (accepted (now (s .entry)))) × ReadExactly (now (s .entry)) r ⌝ }
+    ensures { λ r. ⌜ (r ≡ fileShown (now (s .entry)) (accepted (now (s .entry))) (faultPlace (now (s .entry)))) × ReadExactly (now (s .entry)) r ⌝ }
 {
     tested(s)
 }

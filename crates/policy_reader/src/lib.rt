@@ -1,16 +1,18 @@
-// The reader of policy files: the number of a string, and the list and the element at an offset.
+// The reader of policy files: the number of a string with the place of its first fault, and the list and the element at an offset.
 //
 // No public function asks anything of its caller: any slice of any length, and any offset. To walk an accepted string once, take `list_at` from
 // FIRST_LIST on, each list after the one before it, and `element_at` in the string up to the end of a list's elements; the laws of such a loop are in
 // proofs/Walk.antt.
+mod at_offset;
 mod elements;
+mod extents;
 mod file;
 mod lists;
 mod numbers;
 
-pub use elements::element_at;
+pub use at_offset::element_at;
+pub use at_offset::list_at;
 pub use file::read;
-pub use lists::list_at;
 
 // The offset of the first list of every file.
 pub const FIRST_LIST: usize = 36;
@@ -19,3 +21,9 @@ pub const FIRST_LIST: usize = 36;
 pub const LEAST_FILE: usize = FIRST_LIST;
 
 pub const LARGEST_FILE: usize = 65536;
+
+// What is read at the front of a string: how many bytes it takes, or the offset of its first fault.
+pub(crate) enum Extent {
+    Size(usize),
+    Fault(usize),
+}

@@ -236,6 +236,9 @@ pub(crate) fn file(s: &[u8]) {
             lists(s, count);
         }
         FileAnswer::WrongSize => text(b"refused 26\n"),
-        FileAnswer::NotOfGrammar => text(b"refused 27\n"),
+        FileAnswer::NotOfGrammar { place } => {
+            decimal(b"refused 27 at ", place);
+            text(b"\n");
+        }
     }
 }

@@ -1,4 +1,4 @@
--- `refused` meets its contract: no pages, list 255, a digest of zeros.
+-- `refused` meets its contract: no pages, list 255, a digest of zeros, the number and the place that it is given.
 use mathlib.Core.Path.{refl}
 use Rattle.answer.proofs.refused.Statement.{statement}
 use Rattle.answer.proofs.refused.Tie as tie

@@ -43,32 +43,11 @@ returns c =
       omega arith,
     )
 
-empty-requires-2 : tie.Need-empty-requires-2
-empty-requires-2 c κs = search needs
-
-slice-aggregate-with-text-4 : tie.Need-slice-aggregate-with-text-4
-slice-aggregate-with-text-4 c = search needs
-
-with-text-requires-4 : tie.Need-with-text-requires-4
-with-text-requires-4 c κs = search needs
-
-with-number-requires-3 : tie.Need-with-number-requires-3
-with-number-requires-3 c κs = search needs
-
-slice-aggregate-with-text-5 : tie.Need-slice-aggregate-with-text-5
-slice-aggregate-with-text-5 c = search needs
-
-with-text-requires-5 : tie.Need-with-text-requires-5
-with-text-requires-5 c κs = search needs
+refused-line-requires : tie.Need-refused-line-requires
+refused-line-requires c κs = search needs
 
 returns-2 : tie.Need-returns-2
-returns-2 c =
-    let number = c .before .before in
-    let start = number .before .before .before in (
-      refused-said (start .before .before .before .args .a) (start .before .if1 .left) (start .empty2 .ensures .1)
-          (number .before .with-text4 .ensures .1) (number .with-number3 .ensures .1) (c .with-text5 .ensures .1),
-      omega arith,
-    )
+returns-2 c = search (needs, refused-said)
 
 pub first-line-spec : {M : Type 1} → statement M
 first-line-spec =
@@ -84,10 +63,5 @@ first-line-spec =
     slice-aggregate-with-text-3
     with-text-requires-3
     returns
-    empty-requires-2
-    slice-aggregate-with-text-4
-    with-text-requires-4
-    with-number-requires-3
-    slice-aggregate-with-text-5
-    with-text-requires-5
+    refused-line-requires
     returns-2)

@@ -27,7 +27,7 @@ refusal-requires-2 c κs = search needs
 
 returns-2 : tie.Need-returns-2
 returns-2 c =
-    let at-fault = c .before .before in
+    let at-fault = c .before .before .before in
     let at-file = at-fault .before in
     c .refusal2 .ensures
     ∙ file-refuses _ _ _ _ (sym (at-file .before .before .file-placed .ensures) ∙ not-false _ (at-file .before .if1 .left)) _ _
@@ -38,7 +38,7 @@ by-file-requires c κs = search needs
 
 returns-3 : tie.Need-returns-3
 returns-3 c =
-    let at-fault = c .before .before in
+    let at-fault = c .before .before .before in
     let at-file = at-fault .before in
     c .by-file .ensures
     ∙ file-passes _ _ _ _ (sym (at-file .before .before .file-placed .ensures) ∙ not-false _ (at-file .before .if1 .left)) _ _

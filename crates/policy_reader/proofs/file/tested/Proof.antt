@@ -1,6 +1,6 @@
 -- `tested` meets its contract: one law for each answer.
 use Rattle.policy_grammar.specs.Grammar.{markCharacters}
-use Rattle.policy_reader.proofs.FileTests.{read-short, read-long, read-mark, read-zeros, read-none, read-many, read-unfilled, read-yes}
+use Rattle.policy_reader.proofs.FileTests.{read-short, read-long, read-mark, read-zeros, read-none, read-many, read-yes, read-faulty, place-fits}
 use Prim.Native.Nat.{_<_}
 use native.Mathlib.Omega.{arith}
 use borrow.Author.Needs.{needs}
@@ -46,31 +46,34 @@ returns-6 c =
     let h : 8 < c .before .before .number .result = omega arith in
     search (needs, read-many)
 
-sub-lists-fill : tie.Need-sub-lists-fill
-sub-lists-fill c = search needs
+sub-lists-extent : tie.Need-sub-lists-extent
+sub-lists-extent c = search needs
 
-part-lists-fill-start : tie.Need-part-lists-fill-start
-part-lists-fill-start c = search needs
+part-lists-extent-start : tie.Need-part-lists-extent-start
+part-lists-extent-start c = search needs
 
-part-lists-fill-end : tie.Need-part-lists-fill-end
-part-lists-fill-end c = search needs
+part-lists-extent-end : tie.Need-part-lists-extent-end
+part-lists-extent-end c = search needs
 
-lists-fill-requires : tie.Need-lists-fill-requires
-lists-fill-requires c κs = search needs
+lists-extent-requires : tie.Need-lists-extent-requires
+lists-extent-requires c κs = search needs
+
+enum-told : tie.Need-enum-told
+enum-told c = search needs
+
+enum-known-p : tie.Need-enum-known-p
+enum-known-p c = search needs
+
+add-t18 : tie.Need-add-t18
+add-t18 c = record { fits = search (needs, place-fits) }
 
 returns-7 : tie.Need-returns-7
 unfolding markCharacters
-returns-7 c = search (needs, read-unfilled)
+returns-7 c = search (needs, read-yes)
 
 returns-8 : tie.Need-returns-8
 unfolding markCharacters
-returns-8 c =
-    let at-number = c .before .before .before .before .before in
-    let at-zeros = at-number .before .before in
-    let at-mark = at-zeros .before .before .before in
-    read-yes _ (at-mark .before .before .before .if1 .left) (at-mark .before .before .if2 .left) _ (at-mark .marked .ensures) (at-zeros .before .before .if3 .left)
-    _ (at-zeros .marked2 .ensures) (at-number .before .if4 .left) _ (at-number .number .ensures .0) (c .before .before .before .before .if5 .left)
-    (c .before .before .before .if6 .left) _ (c .before .lists-fill .ensures) (c .if7 .left)
+returns-8 c = search (needs, read-faulty)
 
 pub tested-spec : {M : Type 1} → statement M
 tested-spec =
@@ -87,9 +90,12 @@ tested-spec =
     number-requires
     returns-5
     returns-6
-    sub-lists-fill
-    part-lists-fill-start
-    part-lists-fill-end
-    lists-fill-requires
+    sub-lists-extent
+    part-lists-extent-start
+    part-lists-extent-end
+    lists-extent-requires
+    enum-told
+    enum-known-p
+    add-t18
     returns-7
     returns-8)

@@ -69,18 +69,21 @@ module _ {A : Type 0} where
   end-filling F s x e = omega (arith, ap end e, end-is (filling F s), reach-exactly (length s) (read F s), within F s)
 
   -- nor past the part of a string from an offset on
-  pub part-fits : (F : Format A) (s : List ℕ) (at k m : ℕ) (x : Extent) → x ≡ extentOf (filling F (take k (drop at s))) → at ≤ m → m ≤ length s → length s < 2 ^ 64 → at + end x < 2 ^ 64
-  part-fits F s at k m x e l u h = omega (arith, end-filling F (take k (drop at s)) x e, length-take k (drop at s), length-drop at s)
+  end-part : (F : Format A) (s : List ℕ) (at k : ℕ) (x : Extent) → x ≡ extentOf (filling F (take k (drop at s))) → end x ≤ length s - at
+  end-part F s at k x e = omega (arith, end-filling F (take k (drop at s)) x e, length-take k (drop at s), length-drop at s)
+
+  pub part-fits : (F : Format A) (s : List ℕ) (n at k m : ℕ) (x : Extent) → x ≡ extentOf (filling F (take k (drop at s))) → n ≤ at → at ≤ m → m ≤ length s → length s < 2 ^ 64 → n + end x < 2 ^ 64
+  part-fits F s n at k m x e i l u h = omega (arith, end-part F s at k x e)
 
   pub rest-fits : (F : Format A) (s : List ℕ) (at : ℕ) (x : Extent) → x ≡ extentOf (filling F (take (length s - at) (drop at s))) → at ≤ length s → length s < 2 ^ 64 → at + end x < 2 ^ 64
-  rest-fits F s at x e l h = part-fits F s at (length s - at) (length s) x e l (omega arith) h
+  rest-fits F s at x e l h = omega (arith, end-part F s at (length s - at) x e)
 
   pub read-fits : (F : Format A) (s : List ℕ) (at : ℕ) (x : Extent) → x ≡ extentOf (read F (take (length s - at) (drop at s))) → at ≤ length s → length s < 2 ^ 64 → at + end x < 2 ^ 64
   read-fits F s at x e l h = omega (arith, end-within F (take (length s - at) (drop at s)) x e, length-take (length s - at) (drop at s))
 
   pub faulty-fits : (F : Format A) (s : List ℕ) (at n : ℕ) (x : Extent) → x ≡ extentOf (filling F (take (at + n - at) (drop at s))) → at + n ≤ length s → length s < 2 ^ 64
       → (p : ℕ) → x ≡ Fault p → at + p < 2 ^ 64
-  faulty-fits F s at n x e l h p q = omega (arith, ap end q, part-fits F s at (at + n - at) (at + n) x e (omega arith) l h)
+  faulty-fits F s at n x e l h p q = omega (arith, ap end q, end-part F s at (at + n - at) x e)
 
   -- a fault is one of what fills a string
   pub faulty : (F : Format A) (s : List ℕ) (p : ℕ) → read F s ≡ fault p → Fault p ≡ extentOf (filling F s)

@@ -1,4 +1,5 @@
-/* Builds a small image in memory (an ANY policy, two pages), asks whether its launch will succeed, then breaks one thing and asks again. */
+/* Builds a small image in memory (an ANY policy, two pages), asks whether its launch will succeed, then breaks one thing and asks again; then the
+ * same under a LIST policy whose file is not of the grammar, where the answer says which byte is wrong. */
 #include "bleiwurzel.h"
 #include <inttypes.h>
 #include <stdio.h>
@@ -91,11 +92,28 @@ static void build_record(void)
     put(record + 4, 1, 1); /* ANY */
 }
 
+/* A policy file of one list without elements, in the unused page, and a record that asks for it. */
+static void build_policy(uint16_t list_version)
+{
+    put_bytes(window, "Intel(R) TXT LCP_POLICY_DATA", 28); /* 7 zeros follow */
+    put(window + 35, 1, 1);                                /* list count */
+    put(window + 36, list_version, 2);
+    put(window + 38, 0x0010, 2);  /* signature algorithm: none */
+    put(window + 40, 0, 4);       /* elements size */
+    put(heap + 24 + 64, BASE, 8); /* policy file base .. */
+    put(heap + 24 + 72, 44, 8);   /* .. and size */
+    put(record + 4, 0, 1);        /* LIST */
+}
+
 static void ask(void)
 {
     uint64_t pages[BLEIWURZEL_MOST_PAGES];
     struct bleiwurzel_answer a = bleiwurzel_launch(window, sizeof window, heap, sizeof heap, sinit, sizeof sinit, record, sizeof record,
                                                    NULL, 0 /* no STM image */, &platform, pages, BLEIWURZEL_MOST_PAGES);
+    if (a.number == BLEIWURZEL_POLICY_GRAMMAR) {
+        printf("refused %" PRIu32 " at %" PRIu32 "\n", a.number, a.place); /* the wrong field's offset in the policy file */
+        return;
+    }
     if (a.number != BLEIWURZEL_PERMITTED) {
         printf("refused %" PRIu32 "\n", a.number);
         return;
@@ -116,6 +134,9 @@ int main(void)
     build_record();
     ask();
     put(window + 3 * PAGE + 8, (BASE + 4 * PAGE) | 1, 8); /* both entries name one page: BLEIWURZEL_NOT_ASCENDING */
+    ask();
+    put(window + 3 * PAGE + 8, (BASE + 5 * PAGE) | 1, 8);
+    build_policy(0x0300); /* a list version that is not of the grammar, at offset 36: BLEIWURZEL_POLICY_GRAMMAR */
     ask();
     return 0;
 }

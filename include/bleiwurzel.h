@@ -127,8 +127,17 @@ struct bleiwurzel_answer {
     uint32_t number;    /* 0 permitted, else the refusal; see enum bleiwurzel_number */
     uint32_t pages;     /* N, how many pages the image has, which is MLE Size / 4096 */
     uint32_t list;      /* the lowest list that permits, counted from 0; 255 under ANY */
+    uint32_t place;     /* on 27 which field of the policy file is wrong: its offset; 0 for every other number */
     uint8_t digest[32]; /* SHA-256 over the N pages in linear order */
 };
+
+/*
+ * The place of a 27 (BLEIWURZEL_POLICY_GRAMMAR) is the offset, counted from the policy file's first byte, of the first field in file order whose
+ * rule fails or that does not fit. A size, or the count of digests of an element, that reaches past what holds it is that field's own fault; the
+ * key size answers for key and signature together. The mark with its 4 zeros is one field, the 3 zeros before the list count another. Bytes that
+ * follow the last field of an element, of a list's elements or of the file give the offset of the first of them. So a place can be 0, and where
+ * a field is missing at the file's end it is the file's length. With every other number the place is 0.
+ */
 
 /* ---- The check ---------------------------------------------------------------------------------------------------------------------- */
 
@@ -143,15 +152,15 @@ struct bleiwurzel_answer {
  * says. All of what is lent is hashed, and no field of it is read. With no STM its length is 0. It is hashed at most once, and only where a list
  * that permits otherwise holds an STM element (type 0x14); under ANY it never is.
  * Written: pages, a list of `places` 64-bit numbers: on a permission (0) its first counts[0] places get the physical addresses of the pages in
- * linear order and its other places stay; on a refusal every place stays. counts always: [0] the number of pages, [1] the list. digest always:
- * the digest of the pages. On a refusal counts gets 0 and 255, and digest 32 zeros.
+ * linear order and its other places stay; on a refusal every place stays. counts always: [0] the number of pages, [1] the list. place always:
+ * the place of a 27, else 0. digest always: the digest of the pages. On a refusal counts gets 0 and 255, and digest 32 zeros.
  * Answers 0 to 29; never 30.
  */
 uint32_t bleiwurzel_check(const uint8_t *window, size_t window_length, const uint8_t *heap, size_t heap_length, const uint8_t *sinit,
                           size_t sinit_length, const uint8_t *record, size_t record_length, const uint8_t *stm, size_t stm_length,
                           uint64_t window_base, uint64_t heap_base, uint64_t sinit_base, uint64_t dpr_base, uint64_t dpr_size,
                           uint64_t acram_capacity, uint16_t vendor, uint16_t device, uint16_t revision, uint64_t *pages, size_t places,
-                          uint32_t counts[2], uint8_t digest[32]);
+                          uint32_t counts[2], uint32_t place[1], uint8_t digest[32]);
 
 /*
  * The same for a capture file: the mark `LPC`, 16-bit version 1, the platform, four 32-bit lengths (window, heap, module, record), the four
@@ -161,7 +170,7 @@ uint32_t bleiwurzel_check(const uint8_t *window, size_t window_length, const uin
  * Answers 0 to 30; 30 where the bytes are no capture.
  */
 uint32_t bleiwurzel_check_capture(const uint8_t *capture, size_t capture_length, uint64_t *pages, size_t places, uint32_t counts[2],
-                                  uint8_t digest[32]);
+                                  uint32_t place[1], uint8_t digest[32]);
 
 /*
  * bleiwurzel_check, which also hands out the digest of the pages where no list permits them (29), so that it can be put into a list without
@@ -175,17 +184,17 @@ uint32_t bleiwurzel_check_measured(const uint8_t *window, size_t window_length, 
                                    const uint8_t *sinit, size_t sinit_length, const uint8_t *record, size_t record_length,
                                    const uint8_t *stm, size_t stm_length, uint64_t window_base, uint64_t heap_base, uint64_t sinit_base,
                                    uint64_t dpr_base, uint64_t dpr_size, uint64_t acram_capacity, uint16_t vendor, uint16_t device,
-                                   uint16_t revision, uint64_t *pages, size_t places, uint32_t counts[2], uint8_t digest[32],
-                                   uint8_t measurement[32]);
+                                   uint16_t revision, uint64_t *pages, size_t places, uint32_t counts[2], uint32_t place[1],
+                                   uint8_t digest[32], uint8_t measurement[32]);
 
 /* ---- The reader of policy files ----------------------------------------------------------------------------------------------------- */
 
 /*
  * Whether a string is a policy file: 0 if it is, 26 if it does not have 36 to 65536 bytes, else 27 (not of the grammar).
  *
- * Lent for reading: file. Written: lists[0], the number of its lists (1 to 8), or 0 where it is refused.
+ * Lent for reading: file. Written: lists[0], the number of its lists (1 to 8), or 0 where it is refused; place[0], the place of a 27, else 0.
  */
-uint32_t bleiwurzel_policy(const uint8_t *file, size_t file_length, uint64_t lists[1]);
+uint32_t bleiwurzel_policy(const uint8_t *file, size_t file_length, uint64_t lists[1], uint64_t place[1]);
 
 /* What bleiwurzel_policy_list and bleiwurzel_policy_list_at answer, and what they write where. Offsets count from the file's first byte. */
 enum { BLEIWURZEL_LIST_NONE = 0, BLEIWURZEL_LIST_UNSIGNED = 1, BLEIWURZEL_LIST_SIGNED = 2 };
@@ -290,14 +299,16 @@ static inline struct bleiwurzel_answer bleiwurzel_launch(const uint8_t *window, 
                                                          uint64_t *pages, size_t places)
 {
     struct bleiwurzel_answer answer;
-    uint32_t counts[2];
+    uint32_t counts[2], place[1];
     const uint8_t no_image = 0; /* the library follows no pointer of length 0, but none may be NULL */
     answer.number = bleiwurzel_check(window, window_length, heap, heap_length, sinit, sinit_length, record, record_length,
                                      stm_length == 0 ? &no_image : stm, stm_length, platform->window_base, platform->heap_base,
                                      platform->sinit_base, platform->dpr_base, platform->dpr_size, platform->acram_capacity,
-                                     platform->vendor, platform->device, platform->revision, pages, places, counts, answer.digest);
+                                     platform->vendor, platform->device, platform->revision, pages, places, counts, place,
+                                     answer.digest);
     answer.pages = counts[0];
     answer.list = counts[1];
+    answer.place = place[0];
     return answer;
 }
 
@@ -306,18 +317,19 @@ static inline struct bleiwurzel_answer bleiwurzel_launch_capture(const uint8_t *
                                                                  size_t places)
 {
     struct bleiwurzel_answer answer;
-    uint32_t counts[2];
-    answer.number = bleiwurzel_check_capture(capture, capture_length, pages, places, counts, answer.digest);
+    uint32_t counts[2], place[1];
+    answer.number = bleiwurzel_check_capture(capture, capture_length, pages, places, counts, place, answer.digest);
     answer.pages = counts[0];
     answer.list = counts[1];
+    answer.place = place[0];
     return answer;
 }
 
 /* How many lists a policy file has; 0 where the string is refused. */
 static inline size_t bleiwurzel_policy_lists(const uint8_t *file, size_t file_length)
 {
-    uint64_t lists[1];
-    bleiwurzel_policy(file, file_length, lists);
+    uint64_t lists[1], place[1];
+    bleiwurzel_policy(file, file_length, lists, place);
     return (size_t)lists[0];
 }
 

@@ -36,8 +36,9 @@ static void launches(void)
     uint64_t list[3] = { UNTOUCHED, UNTOUCHED, UNTOUCHED };
     struct bleiwurzel_answer a = launched(NULL, 0, list, 1);
     NEED(a.number == BLEIWURZEL_PAGE_LIST && a.pages == 0 && a.list == BLEIWURZEL_NO_LIST_INDEX && list[0] == UNTOUCHED);
+    NEED(a.place == 0);
     a = launched(NULL, 0, list, 3);
-    NEED(a.number == BLEIWURZEL_PERMITTED && a.pages == 2 && a.list == BLEIWURZEL_NO_LIST_INDEX);
+    NEED(a.number == BLEIWURZEL_PERMITTED && a.pages == 2 && a.list == BLEIWURZEL_NO_LIST_INDEX && a.place == 0);
     NEED(list[0] == 0x104000 && list[1] == 0x105000 && list[2] == UNTOUCHED);
     uint8_t expected[32];
     bleiwurzel_sha256(window + 4 * PAGE, 2 * PAGE, expected);
@@ -47,9 +48,11 @@ static void launches(void)
     NEED(launched(stm, BLEIWURZEL_MOST_STM + 1, list, 3).number == BLEIWURZEL_LIMITS);
 }
 
-static void captures(void)
+static uint8_t capture[75 + sizeof window + sizeof heap + sizeof sinit + sizeof record];
+
+/* Makes a capture of the parts as they are. */
+static void build_capture(void)
 {
-    static uint8_t capture[75 + sizeof window + sizeof heap + sizeof sinit + sizeof record];
     const uint64_t numbers[6] = { platform.window_base, platform.heap_base, platform.sinit_base,
                                   platform.dpr_base,    platform.dpr_size,  platform.acram_capacity };
     put_bytes(capture, "LPC\1\0", 5);
@@ -67,25 +70,31 @@ static void captures(void)
     at = (uint8_t *)memcpy(at, heap, sizeof heap) + sizeof heap;
     at = (uint8_t *)memcpy(at, sinit, sizeof sinit) + sizeof sinit;
     memcpy(at, record, sizeof record);
+}
+
+static void captures(void)
+{
+    build_capture();
     uint64_t list[2] = { UNTOUCHED, UNTOUCHED };
     struct bleiwurzel_answer a = bleiwurzel_launch_capture(capture, sizeof capture - 1, list, 2);
-    NEED(a.number == BLEIWURZEL_CAPTURE && list[0] == UNTOUCHED);
+    NEED(a.number == BLEIWURZEL_CAPTURE && a.place == 0 && list[0] == UNTOUCHED);
     a = bleiwurzel_launch_capture(capture, sizeof capture, list, 2);
     NEED(a.number == BLEIWURZEL_PERMITTED && a.pages == 2 && list[0] == 0x104000 && list[1] == 0x105000);
 }
 
 /* bleiwurzel_check_measured with an STM image, for a page list of two places. bleiwurzel_check, by bleiwurzel_launch, must answer the same, and
- * both leave the page list as it was or write the same pages. */
+ * both leave the page list as it was or write the same pages. Only 27 has a place other than 0. */
 static uint32_t measured(const uint8_t *stm, size_t stm_length, uint8_t digest[32], uint8_t measurement[32])
 {
     uint64_t list[2] = { UNTOUCHED, UNTOUCHED }, other[2] = { UNTOUCHED, UNTOUCHED };
-    uint32_t counts[2];
+    uint32_t counts[2], place[1] = { 1 };
     uint32_t number = bleiwurzel_check_measured(window, sizeof window, heap, sizeof heap, sinit, sizeof sinit, record, sizeof record, stm,
                                                 stm_length, platform.window_base, platform.heap_base, platform.sinit_base, platform.dpr_base,
                                                 platform.dpr_size, platform.acram_capacity, platform.vendor, platform.device,
-                                                platform.revision, list, 2, counts, digest, measurement);
+                                                platform.revision, list, 2, counts, place, digest, measurement);
     struct bleiwurzel_answer a = launched(stm, stm_length, other, 2);
-    NEED(a.number == number && a.pages == counts[0] && a.list == counts[1]);
+    NEED(a.number == number && a.pages == counts[0] && a.list == counts[1] && a.place == place[0]);
+    NEED(number == BLEIWURZEL_POLICY_GRAMMAR || place[0] == 0);
     NEED(memcmp(a.digest, digest, 32) == 0 && memcmp(list, other, sizeof list) == 0);
     NEED((list[0] == UNTOUCHED) == (number != BLEIWURZEL_PERMITTED));
     return number;
@@ -118,13 +127,9 @@ static void refusals(void)
  * PolicyHash is right for it. */
 static void listed(uint32_t elements_size)
 {
-    put_bytes(window, "Intel(R) TXT LCP_POLICY_DATA", 28);
-    put(window + 35, 1, 1);
-    put(window + 36, 0x00100201, 4);
+    build_policy(0x0201);
     put(window + 40, elements_size, 4);
-    put(heap + 24 + 64, BASE, 8);
     put(heap + 24 + 72, 44 + elements_size, 8);
-    put(record + 4, 0, 1);
     uint8_t of_list[32];
     bleiwurzel_sha256(window + 36, 8 + elements_size, of_list);
     bleiwurzel_sha256(of_list, 32, record + 38);
@@ -176,6 +181,32 @@ static void stm_images(void)
     NEED(launched(NULL, 0, list, 2).number == BLEIWURZEL_NO_LIST);
 }
 
+/* The place of a 27, which bleiwurzel_check, bleiwurzel_check_measured, bleiwurzel_check_capture and bleiwurzel_policy all give: of a list version, of
+ * a zero behind the mark, of the list's end where the file has a byte more, and of the signature algorithm where it has too few. */
+static void places(void)
+{
+    static const uint8_t zeros[32];
+    const struct {
+        size_t byte;
+        uint8_t changed;
+        uint64_t size, place;
+    } cases[] = { { 37, 1, 44, 36 }, { 31, 1, 44, 0 }, { 44, 0, 45, 44 }, { 38, 0, 39, 38 } };
+    for (size_t i = 0; i < sizeof cases / sizeof cases[0]; i++) {
+        uint64_t list[2] = { UNTOUCHED, UNTOUCHED }, lists[1] = { 1 }, place[1] = { 1 };
+        uint8_t digest[32], measurement[32];
+        build_policy(0x0201);
+        window[cases[i].byte] ^= cases[i].changed;
+        put(heap + 24 + 72, cases[i].size, 8);
+        build_capture();
+        NEED(measured(zeros, 0, digest, measurement) == BLEIWURZEL_POLICY_GRAMMAR);
+        NEED(launched(NULL, 0, list, 2).place == cases[i].place);
+        NEED(bleiwurzel_launch_capture(capture, sizeof capture, list, 2).place == cases[i].place && list[0] == UNTOUCHED);
+        NEED(bleiwurzel_policy(window, cases[i].size, lists, place) == BLEIWURZEL_POLICY_GRAMMAR);
+        NEED(lists[0] == 0 && place[0] == cases[i].place);
+        window[cases[i].byte] ^= cases[i].changed;
+    }
+}
+
 static void policies(void)
 {
     static uint8_t file[36 + 8 + 50 + 13 + 8 + 4 + 512];
@@ -194,11 +225,12 @@ static void policies(void)
     put(file + 107, 0x00140200, 4); /* list 1: version 0x0200, signed, no elements */
     put(file + 115, 5, 2);
     put(file + 117, 256, 2);
-    uint64_t lists[1], fields[9];
-    NEED(bleiwurzel_policy(file, sizeof file, lists) == 0 && lists[0] == 2);
+    uint64_t lists[1], place[1] = { 1 }, fields[9];
+    NEED(bleiwurzel_policy(file, sizeof file, lists, place) == 0 && lists[0] == 2 && place[0] == 0);
     NEED(bleiwurzel_policy_lists(file, sizeof file) == 2);
-    NEED(bleiwurzel_policy(file, 35, lists) == BLEIWURZEL_POLICY_PLACE && lists[0] == 0);
-    NEED(bleiwurzel_policy(file, sizeof file - 1, lists) == BLEIWURZEL_POLICY_GRAMMAR && lists[0] == 0);
+    NEED(bleiwurzel_policy(file, sizeof file - 1, lists, place) == BLEIWURZEL_POLICY_GRAMMAR && lists[0] == 0);
+    NEED(place[0] == 117); /* the key size, which answers for the signature too */
+    NEED(bleiwurzel_policy(file, 35, lists, place) == BLEIWURZEL_POLICY_PLACE && lists[0] == 0 && place[0] == 0);
     NEED(bleiwurzel_policy_list(file, sizeof file, 0, fields) == BLEIWURZEL_LIST_UNSIGNED);
     NEED(fields[BLEIWURZEL_LIST_OFFSET] == 36 && fields[BLEIWURZEL_LIST_SIZE] == 71 && fields[BLEIWURZEL_LIST_VERSION] == 0x0201);
     NEED(fields[BLEIWURZEL_LIST_ELEMENTS] == 44 && fields[BLEIWURZEL_LIST_ELEMENTS_SIZE] == 63 && fields[BLEIWURZEL_LIST_KEY] == 0);
@@ -230,11 +262,11 @@ static void policies(void)
     put(file + 48, 0x14, 4); /* element 0: an STM element of 50 bytes, one by SHA-256 and 2 more */
     put(file + 56, 0x000B, 2);
     put(file + 58, 1, 2);
-    NEED(bleiwurzel_policy(file, sizeof file, lists) == BLEIWURZEL_POLICY_GRAMMAR);
+    NEED(bleiwurzel_policy(file, sizeof file, lists, place) == BLEIWURZEL_POLICY_GRAMMAR && place[0] == 92);
     put(file + 40, 61, 4); /* without the 2 */
     put(file + 44, 48, 4);
     memmove(file + 92, file + 94, sizeof file - 94);
-    NEED(bleiwurzel_policy(file, sizeof file - 2, lists) == 0 && lists[0] == 2);
+    NEED(bleiwurzel_policy(file, sizeof file - 2, lists, place) == 0 && lists[0] == 2);
     NEED(bleiwurzel_policy_element(file, sizeof file - 2, 0, 0, fields) == BLEIWURZEL_ELEMENT_STM);
     NEED(fields[BLEIWURZEL_ELEMENT_OFFSET] == 44 && fields[BLEIWURZEL_ELEMENT_SIZE] == 48 && fields[BLEIWURZEL_ELEMENT_TYPE] == 0x14);
     NEED(fields[BLEIWURZEL_ELEMENT_CONTROL] == 1 && fields[BLEIWURZEL_ELEMENT_SINIT_MIN_VERSION] == 0);
@@ -286,6 +318,7 @@ int main(void)
     refusals();
     measurements();
     stm_images();
+    places();
     policies();
     signatures();
     (void)example_main;

@@ -11,7 +11,7 @@ use lib.Dec.{T, leb, lit≤}
 use Rattle.field.specs.Field.{fieldAt, numberAt}
 use Rattle.field.specs.declared.Field.{Field}
 use Rattle.field.specs.declared.Field.the-variants.{Number, Outside}
-use Rattle.field.proofs.Laws.{field-fits, field-outside, number-at-fits}
+use Rattle.field.proofs.Laws.{field-fits, field-outside, number-at-fits, from-offset}
 use Rattle.policy_grammar.specs.Format.{Format, done, _>>=_, number}
 use Rattle.policy_grammar.specs.Parser.{Read, value, fault, after, continue, exactly, read, filling}
 use Rattle.policy_grammar.proofs.Formats.{read-then}
@@ -84,6 +84,10 @@ module _ {A : Type 0} where
   pub faulty-fits : (F : Format A) (s : List ℕ) (at n : ℕ) (x : Extent) → x ≡ extentOf (filling F (take (at + n - at) (drop at s))) → at + n ≤ length s → length s < 2 ^ 64
       → (p : ℕ) → x ≡ Fault p → at + p < 2 ^ 64
   faulty-fits F s at n x e l h p q = omega (arith, ap end q, end-part F s at (at + n - at) x e)
+
+  -- what is read at an offset is read at the front of what is left there
+  pub read-there : (F : Format A) (s : List ℕ) (at : ℕ) (x : Extent) → x ≡ extentOf (read F (take (length s - at) (drop at s))) → x ≡ extentOf (read F (drop at s))
+  read-there F s at x e = e ∙ ap (λ (t : List ℕ). extentOf (read F t)) (from-offset s at)
 
   -- a fault is one of what fills a string
   pub faulty : (F : Format A) (s : List ℕ) (p : ℕ) → read F s ≡ fault p → Fault p ≡ extentOf (filling F s)

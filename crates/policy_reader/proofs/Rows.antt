@@ -5,13 +5,13 @@ use native.Mathlib.Omega.{arith}
 use mathlib.Core.Path.{_≡_, refl, ap, sym, _∙_}
 use mathlib.Core.Bool.{Bool, cond}
 use mathlib.Core.List.{List, []}
-use lib.ListN.{length, getD, take, drop, length-drop, drop-of-length-le}
+use lib.ListN.{length, getD, drop, length-drop, drop-of-length-le}
 use lib.Seq.{drop-drop}
 use borrow.Author.Tests.{eq-eqb, ne-eqb}
 use mir.Val.{Fits}
 use mir.Syntax.{w8}
 use Rattle.field.specs.Number.{Bytes}
-use Rattle.field.proofs.Laws.{bytes-drop, from-offset}
+use Rattle.field.proofs.Laws.{bytes-drop}
 use Rattle.policy_grammar.specs.Format.{Format, done, times, many}
 use Rattle.policy_grammar.specs.Parser.{Read, value, fault, exactly, read, filling}
 use Rattle.policy_grammar.specs.Layout as Layout
@@ -32,25 +32,22 @@ rest-start : {A : Type 0} (F : Format A) (t : List ℕ) → Rest F t 0 F
 rest-start F t = sym (further-none (extentOf (filling F t)))
 
 -- the value at an offset, by its extent, and the fault
-module _ {A : Type 0} (m : Format A) (t : List ℕ) (at : ℕ) (x : Extent) (ex : x ≡ extentOf (read m (take (length t - at) (drop at t)))) (n : ℕ) where
-  x-is : extentOf (read m (drop at t)) ≡ x
-  x-is = sym (ex ∙ ap (λ (s : List ℕ). extentOf (read m s)) (from-offset t at))
-
+module _ {A : Type 0} (m : Format A) (t : List ℕ) (at : ℕ) (x : Extent) (ex : x ≡ extentOf (read m (drop at t))) (n : ℕ) where
   pub value-there : x ≡ Size n → (a : A) × (read m (drop at t) ≡ value a n)
-  value-there q = size-read (read m (drop at t)) n (x-is ∙ q)
+  value-there q = size-read (read m (drop at t)) n (sym ex ∙ q)
 
   pub fault-there : x ≡ Fault n → read m (drop at t) ≡ fault n
-  fault-there q = fault-read (read m (drop at t)) n (x-is ∙ q)
+  fault-there q = fault-read (read m (drop at t)) n (sym ex ∙ q)
 
   -- it is within the string
   pub size-within : x ≡ Size n → at ≤ length t → at + n ≤ length t
-  size-within q l = omega (arith, ap end q, end-within m (take (length t - at) (drop at t)) x ex, ap length (from-offset t at), length-drop at t)
+  size-within q l = omega (arith, ap end q, end-within m (drop at t) x ex, length-drop at t)
 
   pub size-ends : x ≡ Size n → at ≤ length t → length t < 2 ^ 64 → at + n < 2 ^ 64
   size-ends q l h = omega (arith, size-within q l)
 
   pub fault-ends : x ≡ Fault n → at ≤ length t → length t < 2 ^ 64 → at + n < 2 ^ 64
-  fault-ends q l h = omega (arith, ap end q, end-within m (take (length t - at) (drop at t)) x ex, ap length (from-offset t at), length-drop at t)
+  fault-ends q l h = omega (arith, ap end q, end-within m (drop at t) x ex, length-drop at t)
 
 -- a row of values at an offset: one is read and the others follow it, or its fault is one of the whole
 module _ {A B : Type 0} (F : Format B) (m : Format A) (others G : Format (List A)) (t : List ℕ) (at : ℕ) (is-row : filling G (drop at t) ≡ filling (row m others (drop at t)) (drop at t)) (r : Rest F t at G) where
@@ -75,7 +72,7 @@ Elements t at = (k : ℕ) × (length t ≤ at + k) × Rest (many (length t) Layo
 pub elements-start : (t : List ℕ) → Elements t 0
 elements-start t = (length t, omega arith, rest-start (many (length t) Layout.element) t)
 
-module _ (t : List ℕ) (b : (i : ℕ) → Fits w8 (getD t i 0)) (at : ℕ) (x : Extent) (ex : x ≡ extentOf (read Layout.element (take (length t - at) (drop at t)))) (n : ℕ) (h : at < length t) where
+module _ (t : List ℕ) (b : (i : ℕ) → Fits w8 (getD t i 0)) (at : ℕ) (x : Extent) (ex : x ≡ extentOf (read Layout.element (drop at t))) (n : ℕ) (h : at < length t) where
   more : (k : ℕ) → filling (many (suc k) Layout.element) (drop at t) ≡ filling (row Layout.element (many k Layout.element) (drop at t)) (drop at t)
   unfolding many read
   more k =
@@ -117,7 +114,7 @@ Lists t n at k = Rest (times n Layout.list) t at (times (n - k) Layout.list)
 pub lists-start : (t : List ℕ) (n : ℕ) → Lists t n 0 0
 lists-start t n = let i : n - 0 ≡ n = omega arith in rw i (rest-start (times n Layout.list) t)
 
-module _ (t : List ℕ) (n at k : ℕ) (x : Extent) (ex : x ≡ extentOf (read Layout.list (take (length t - at) (drop at t)))) (z : ℕ) (h : k < n) (r : Lists t n at k) where
+module _ (t : List ℕ) (n at k : ℕ) (x : Extent) (ex : x ≡ extentOf (read Layout.list (drop at t))) (z : ℕ) (h : k < n) (r : Lists t n at k) where
   another : filling (times (n - k) Layout.list) (drop at t) ≡ filling (row Layout.list (times (n - (k + 1)) Layout.list) (drop at t)) (drop at t)
   unfolding times
   another = let i : n - k ≡ suc (n - (k + 1)) = omega arith in rw i

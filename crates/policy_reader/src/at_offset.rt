@@ -20,7 +20,7 @@ ghost use Rattle.policy_reader.specs.Offsets.{ElementAtExactly, ListAtEx
 fn first_element(t: &[u8], start: usize) -> ElementAnswer
     ensures { λ r. ⌜ r ≡ elementShown start (valueOf (Decode.element (now (t .entry)))) ⌝ }
 {
-    let Extent::Size(size) = element_extent(t) else {
+    let Extent::Size(size) = element_extent(t, 0) else {
         return ElementAnswer::Refused;
     };
     let kind = number(t, 4, 4);
@@ -75,7 +75,7 @@ fn first_list(t: &[u8], start: usize) -> ListAnswer
     requires { ⌜ start + length (now t) < 2 ^ 64 ⌝ }
     ensures { λ r. ⌜ r ≡ listShown start (valueOf (Decode.list (now (t .entry)))) ⌝ }
 {
-    let Extent::Size(size) = list_extent(t) else {
+    let Extent::Size(size) = list_extent(t, 0) else {
         return ListAnswer::Absent;
     };
     let version = number(t, 0, 2);

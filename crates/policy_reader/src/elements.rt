@@ -7,7 +7,8 @@ use policy_answers::LAUNCH_TYPE;
 use policy_answers::STM_TYPE;
 use policy_answers::digest_length;
 ghost use mathlib.Core.Path.{_≡_};
-ghost use lib.ListN.{length};
+ghost use Prim.Native.Nat.{_≤_};
+ghost use lib.ListN.{length, drop};
 ghost use Rattle.policy_grammar.specs.Format.{many};
 ghost use Rattle.policy_grammar.specs.Parser.{read, filling};
 ghost use Rattle.policy_grammar.specs.Layout as Layout;
@@ -52,7 +53,7 @@ fn launch_extent(b: &[u8]) -> Extent
 }
 
 // The element at the front of t. Its body is judged as the part of t that it is.
-pub(crate) fn element_extent(t: &[u8]) -> Extent
+fn first_extent(t: &[u8]) -> Extent
     ensures { λ r. ⌜ r ≡ extentOf (read Layout.element (now (t .entry))) ⌝ }
 {
     let size = match field::read(t, 0, 4) {
@@ -75,13 +76,21 @@ pub(crate) fn element_extent(t: &[u8]) -> Extent
     Extent::Size(size)
 }
 
+// The element that stands at `at` in t.
+pub(crate) fn element_extent(t: &[u8], at: usize) -> Extent
+    requires { ⌜ at ≤ length (now t) ⌝ }
+    ensures { λ r. ⌜ r ≡ extentOf (read Layout.element (drop at (now (t .entry)))) ⌝ }
+{
+    first_extent(&t[at..])
+}
+
 // The elements that fill t.
 pub(crate) fn elements_extent(t: &[u8]) -> Extent
     ensures { λ r. ⌜ r ≡ extentOf (filling (many (length (now (t .entry))) Layout.element) (now (t .entry))) ⌝ }
 {
     let mut at = 0;
     while at < t.len() {
-        match element_extent(&t[at..]) {
+        match element_extent(t, at) {
             Extent::Size(size) => at += size,
             Extent::Fault(p) => return Extent::Fault(at + p),
         }

@@ -5,6 +5,8 @@ use crate::extents::behind;
 use crate::numbers::one_of;
 use field::Field;
 ghost use mathlib.Core.Path.{_≡_};
+ghost use Prim.Native.Nat.{_≤_};
+ghost use lib.ListN.{length, drop};
 ghost use Rattle.policy_grammar.specs.Format.{times};
 ghost use Rattle.policy_grammar.specs.Parser.{read, filling};
 ghost use Rattle.policy_grammar.specs.Layout as Layout;
@@ -32,7 +34,7 @@ fn signed_extent(t: &[u8]) -> Extent
 }
 
 // The list at the front of t.
-pub(crate) fn list_extent(t: &[u8]) -> Extent
+fn first_extent(t: &[u8]) -> Extent
     ensures { λ r. ⌜ r ≡ extentOf (read Layout.list (now (t .entry))) ⌝ }
 {
     let version = match field::read(t, 0, 2) {
@@ -65,6 +67,14 @@ pub(crate) fn list_extent(t: &[u8]) -> Extent
     Extent::Size(end)
 }
 
+// The list that stands at `at` in t.
+pub(crate) fn list_extent(t: &[u8], at: usize) -> Extent
+    requires { ⌜ at ≤ length (now t) ⌝ }
+    ensures { λ r. ⌜ r ≡ extentOf (read Layout.list (drop at (now (t .entry)))) ⌝ }
+{
+    first_extent(&t[at..])
+}
+
 // The n lists that fill t.
 pub(crate) fn lists_extent(t: &[u8], n: usize) -> Extent
     ensures { λ r. ⌜ r ≡ extentOf (filling (times n Layout.list) (now (t .entry))) ⌝ }
@@ -72,7 +82,7 @@ pub(crate) fn lists_extent(t: &[u8], n: usize) -> Extent
     let mut at = 0;
     let mut k = 0;
     while k < n {
-        match list_extent(&t[at..]) {
+        match list_extent(t, at) {
             Extent::Size(size) => at += size,
             Extent::Fault(p) => return Extent::Fault(at + p),
         }

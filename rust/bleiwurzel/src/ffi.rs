@@ -26,6 +26,7 @@ extern "C" {
         pages: *mut u64,
         places: usize,
         counts: *mut [u32; 2],
+        place: *mut [u32; 1],
         digest: *mut [u8; 32],
         measurement: *mut [u8; 32],
     ) -> u32;
@@ -35,9 +36,10 @@ extern "C" {
         pages: *mut u64,
         places: usize,
         counts: *mut [u32; 2],
+        place: *mut [u32; 1],
         digest: *mut [u8; 32],
     ) -> u32;
-    fn bleiwurzel_policy(file: *const u8, file_length: usize, lists: *mut [u64; 1]) -> u32;
+    fn bleiwurzel_policy(file: *const u8, file_length: usize, lists: *mut [u64; 1], place: *mut [u64; 1]) -> u32;
     fn bleiwurzel_policy_list(file: *const u8, file_length: usize, i: usize, fields: *mut [u64; 9]) -> u32;
     fn bleiwurzel_policy_list_at(file: *const u8, file_length: usize, at: usize, fields: *mut [u64; 9]) -> u32;
     fn bleiwurzel_policy_element(file: *const u8, file_length: usize, i: usize, j: usize, fields: *mut [u64; 8]) -> u32;
@@ -59,11 +61,11 @@ pub fn check(parts: &Parts, platform: &Platform, pages: &mut [u64]) -> Answer {
 
 /// The answer, and the digest of the pages on a permission and on 29, else zeros.
 pub fn check_measured(parts: &Parts, platform: &Platform, pages: &mut [u64]) -> (Answer, [u8; 32]) {
-    let mut counts = [0u32; 2];
+    let (mut counts, mut place) = ([0u32; 2], [0u32; 1]);
     let mut digest = [0u8; 32];
     let mut measurement = [0u8; 32];
     // SAFETY: each slice is passed with its own length; five are lent for reading and one for writing, and the borrow keeps the
-    // latter apart from them. The three arrays are this function's own.
+    // latter apart from them. The four arrays are this function's own.
     let number = unsafe {
         bleiwurzel_check_measured(
             parts.window.as_ptr(),
@@ -88,29 +90,38 @@ pub fn check_measured(parts: &Parts, platform: &Platform, pages: &mut [u64]) -> 
             pages.as_mut_ptr(),
             pages.len(),
             &mut counts,
+            &mut place,
             &mut digest,
             &mut measurement,
         )
     };
-    (Answer { number, pages: counts[0], list: counts[1], digest }, measurement)
+    (Answer { number, pages: counts[0], list: counts[1], place: place[0], digest }, measurement)
 }
 
 pub fn check_capture(capture: &[u8], pages: &mut [u64]) -> Answer {
-    let mut counts = [0u32; 2];
+    let (mut counts, mut place) = ([0u32; 2], [0u32; 1]);
     let mut digest = [0u8; 32];
-    // SAFETY: as in `check`.
+    // SAFETY: as in `check_measured`.
     let number = unsafe {
-        bleiwurzel_check_capture(capture.as_ptr(), capture.len(), pages.as_mut_ptr(), pages.len(), &mut counts, &mut digest)
+        bleiwurzel_check_capture(
+            capture.as_ptr(),
+            capture.len(),
+            pages.as_mut_ptr(),
+            pages.len(),
+            &mut counts,
+            &mut place,
+            &mut digest,
+        )
     };
-    Answer { number, pages: counts[0], list: counts[1], digest }
+    Answer { number, pages: counts[0], list: counts[1], place: place[0], digest }
 }
 
-/// The number of a string, and how many lists it has.
-pub fn policy(file: &[u8]) -> (u32, u64) {
-    let mut lists = [0u64; 1];
-    // SAFETY: the slice lends its bytes for reading, and the array is this function's own.
-    let number = unsafe { bleiwurzel_policy(file.as_ptr(), file.len(), &mut lists) };
-    (number, lists[0])
+/// The number of a string, how many lists it has, and the place of a 27.
+pub fn policy(file: &[u8]) -> (u32, u64, u64) {
+    let (mut lists, mut place) = ([0u64; 1], [0u64; 1]);
+    // SAFETY: the slice lends its bytes for reading, and the two arrays are this function's own.
+    let number = unsafe { bleiwurzel_policy(file.as_ptr(), file.len(), &mut lists, &mut place) };
+    (number, lists[0], place[0])
 }
 
 /// The kind of list i, and its fields.

@@ -1,7 +1,8 @@
 //! What was found, and where: the rules once more, in plain Rust, over the same inputs as the proved check.
 //!
-//! A finding is said beside the proved answer and never changes it. [`find`] gives the place of the rule with the proved number, and is
-//! silent where this module does not come to that very number.
+//! A finding is said beside the proved answer and never changes it. [`find`] gives what the refusal speaks of, and is silent where this module
+//! does not come to the very number of it. The lists of a policy file, and the place of its first wrong field, are the proved reader's; here it is
+//! only said which field that is.
 
 mod grammar;
 mod heap;
@@ -12,11 +13,12 @@ mod module;
 mod walk;
 
 use crate::text::{bytes, counted, digits, spaced};
-use crate::{capture, Parts, Platform, HIGHEST_END, MOST_HEAP, MOST_PAGES, MOST_STM, MOST_WINDOW, PAGE_SIZE};
+use crate::{capture, Parts, Platform, Refusal, HIGHEST_END, MOST_HEAP, MOST_PAGES, MOST_STM, MOST_WINDOW, PAGE_SIZE};
 pub use length::{Length, Lengths};
 pub use module::{only_length, HEADER_LENGTH};
+use std::ops::Range;
 
-/// The place that a refusal speaks of.
+/// What a refusal speaks of.
 #[derive(Clone, Debug, PartialEq, Eq)]
 pub struct Finding {
     pub number: u32,
@@ -26,9 +28,17 @@ pub struct Finding {
     pub found: String,
     /// More of the same, a line each: the entries of a list, or the reason of each policy list or region.
     pub notes: Vec<String>,
+    /// Of 27 the bytes of the field in the policy file, from the proved place on and as far as there are any; of other numbers none.
+    pub bytes: Option<Range<u32>>,
 }
 
 impl Finding {
+    /// Whether it speaks of this refusal: of the same number, and of 27 with the same place.
+    fn is_of(&self, refusal: Refusal) -> bool {
+        let begins = self.bytes.as_ref().map_or(true, |bytes| bytes.start == refusal.place);
+        self.number == refusal.number && begins
+    }
+
     /// The same of a string that was handed over up to a limit only, where what was found is its length.
     pub fn or_more(mut self) -> Self {
         self.found.push_str(length::OR_MORE);
@@ -53,24 +63,26 @@ impl AtHand {
     }
 }
 
-/// The place of the rule with this number, where there is one.
-pub fn find(number: u32, parts: &Parts, platform: &Platform, places: usize) -> Option<Finding> {
-    find_with(number, parts, &AtHand::of(parts), platform, places)
+/// What this refusal of the check speaks of, where that can be said.
+pub fn find(refusal: Refusal, parts: &Parts, platform: &Platform, places: usize) -> Option<Finding> {
+    find_with(refusal, parts, &AtHand::of(parts), platform, places)
 }
 
 /// The same with what else is at hand.
-pub fn find_with(number: u32, parts: &Parts, at_hand: &AtHand, platform: &Platform, places: usize) -> Option<Finding> {
-    all(parts, at_hand, platform, places).err().filter(|finding| finding.number == number)
+pub fn find_with(refusal: Refusal, parts: &Parts, at_hand: &AtHand, platform: &Platform, places: usize) -> Option<Finding> {
+    all(parts, at_hand, platform, places).err().filter(|finding| finding.is_of(refusal))
 }
 
 /// The same for a capture.
-pub fn find_in_capture(number: u32, bytes: &[u8], places: usize) -> Option<Finding> {
-    first_in_capture(bytes, places).filter(|finding| finding.number == number)
+pub fn find_in_capture(refusal: Refusal, bytes: &[u8], places: usize) -> Option<Finding> {
+    first_in_capture(bytes, places).filter(|finding| finding.is_of(refusal))
 }
 
 /// The same for the reader of policy files.
-pub fn find_in_policy(number: u32, file: &[u8]) -> Option<Finding> {
-    grammar::read_alone(file).err().filter(|finding| finding.number == number)
+pub fn find_in_policy(refusal: Refusal, file: &[u8]) -> Option<Finding> {
+    let file = grammar::File { bytes: file, base: None };
+    let finding = grammar::length(&file).and_then(|()| grammar::read(&file)).err();
+    finding.filter(|finding| finding.is_of(refusal))
 }
 
 /// The first rule that does not hold, as this module sees it.
@@ -82,9 +94,7 @@ pub fn first(parts: &Parts, platform: &Platform, places: usize) -> Option<Findin
 pub fn first_in_capture(bytes: &[u8], places: usize) -> Option<Finding> {
     match capture::split(bytes) {
         Ok((parts, platform)) => first(&parts, &platform, places),
-        Err(fault) => {
-            Some(Finding { number: 30, place: fault.place, expected: fault.expected, found: fault.found, notes: Vec::new() })
-        }
+        Err(fault) => fail::<()>(30, fault.place, fault.expected, fault.found).err(),
     }
 }
 
@@ -106,7 +116,7 @@ fn all(parts: &Parts, at_hand: &AtHand, platform: &Platform, places: usize) -> S
         return Ok(());
     }
     let file = lists::place(parts.window, platform.window_base, &asked)?;
-    let reading = grammar::read(file.bytes, Some(file.base))?;
+    let reading = grammar::read(&file)?;
     lists::hash(&reading, file.bytes, &record)?;
     let digest = at_hand.digest.unwrap_or_else(|| image::digest(parts.window, platform.window_base, &mapped));
     let criteria = lists::Criteria { module: &module, record: &record, digest };
@@ -114,7 +124,18 @@ fn all(parts: &Parts, at_hand: &AtHand, platform: &Platform, places: usize) -> S
 }
 
 fn fail<T>(number: u32, place: impl Into<String>, expected: impl Into<String>, found: impl Into<String>) -> Step<T> {
-    Err(Finding { number, place: place.into(), expected: expected.into(), found: found.into(), notes: Vec::new() })
+    noted(number, place, expected, found, Vec::new())
+}
+
+/// The same with notes.
+fn noted<T>(
+    number: u32,
+    place: impl Into<String>,
+    expected: impl Into<String>,
+    found: impl Into<String>,
+    notes: Vec<String>,
+) -> Step<T> {
+    Err(Finding { number, place: place.into(), expected: expected.into(), found: found.into(), notes, bytes: None })
 }
 
 /// Fails with this number where the condition does not hold.

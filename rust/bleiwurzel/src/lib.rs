@@ -11,13 +11,13 @@
 //! let mut pages = vec![0; MOST_PAGES];
 //! match check(&Parts { window: &window, heap: &heap, sinit: &sinit, record: &record, stm: &[] }, &platform, &mut pages) {
 //!     Ok(permission) => println!("permitted: {:x?}", &pages[..permission.pages]),
-//!     Err(refusal) => println!("refused {}: {}", refusal.number, refusal.meaning()),
+//!     Err(refusal) => println!("{refusal}"),
 //! }
 //! # Ok::<(), std::io::Error>(())
 //! ```
 //!
-//! The answer is the proved library's. What else is here only carries it: [`refusals`] has its texts, and [`finding`] looks for the
-//! place in the inputs that a refusal speaks of.
+//! The answer is the proved library's. What else is here only carries it: [`refusals`] has its texts, and [`finding`] says what of the
+//! inputs a refusal speaks of.
 
 pub mod capture;
 mod ffi;
@@ -62,12 +62,14 @@ pub struct Platform {
     pub revision: u16,
 }
 
-/// The answer as the library gives it. On a refusal `pages` is 0, `list` 255 and the digest all zero.
+/// The answer as the library gives it. On a refusal `pages` is 0, `list` 255 and the digest all zero; `place` is that of [`Refusal`], and 0 on a
+/// permission.
 #[derive(Clone, Copy, Debug, PartialEq, Eq)]
 pub struct Answer {
     pub number: u32,
     pub pages: u32,
     pub list: u32,
+    pub place: u32,
     pub digest: [u8; 32],
 }
 
@@ -75,7 +77,7 @@ impl Answer {
     /// The answer as a permission or a refusal.
     pub fn result(&self) -> Result<Permission, Refusal> {
         if self.number != 0 {
-            return Err(Refusal { number: self.number });
+            return Err(Refusal { number: self.number, place: self.place });
         }
         let list = u8::try_from(self.list).ok().filter(|_| self.list != NO_LIST);
         Ok(Permission { pages: self.pages as usize, list, digest: self.digest })
@@ -98,9 +100,23 @@ pub struct Permission {
 pub struct Refusal {
     /// 1 to 30.
     pub number: u32,
+    /// Of 27 the offset, from the policy file's first byte, of the first field in file order whose rule fails or that does not fit; it may be 0,
+    /// and where a field is missing it may be the file's length. Of every other number 0.
+    pub place: u32,
 }
 
+/// The number that comes with a place: the policy file is not of the grammar.
+pub(crate) const PLACED: u32 = 27;
+
 impl Refusal {
+    /// The line that the capture program prints: `refused 20`, and of 27 with its place, `refused 27 at 36`.
+    pub fn line(&self) -> String {
+        match self.number {
+            PLACED => format!("refused {PLACED} at {}", self.place),
+            number => format!("refused {number}"),
+        }
+    }
+
     /// What it means, in one sentence.
     pub fn meaning(&self) -> &'static str {
         self.text().map_or("This number has no meaning here.", |text| text.meaning)
@@ -114,7 +130,7 @@ impl Refusal {
 
 impl fmt::Display for Refusal {
     fn fmt(&self, f: &mut fmt::Formatter) -> fmt::Result {
-        write!(f, "refused {}: {}", self.number, self.meaning())
+        write!(f, "{}: {}", self.line(), self.meaning())
     }
 }
 

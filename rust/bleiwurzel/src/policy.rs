@@ -94,11 +94,11 @@ pub const TBOOT_CUSTOM: u32 = 0x13;
 /// The algorithm by which a list names an image or an STM image, and by which the record names the policy file.
 pub const SHA256: u16 = 0x000b;
 
-/// How many lists a policy file has, or 26 or 27.
+/// How many lists a policy file has, or 26, or 27 with the place of the first wrong field.
 pub fn read(file: &[u8]) -> Result<usize, Refusal> {
     match ffi::policy(file) {
-        (0, lists) => Ok(lists as usize),
-        (number, _) => Err(Refusal { number }),
+        (0, lists, _) => Ok(lists as usize),
+        (number, _, place) => Err(Refusal { number, place: place as u32 }),
     }
 }
 

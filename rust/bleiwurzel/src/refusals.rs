@@ -582,7 +582,11 @@ pub static TEXTS: [Text; 30] = [
             from 36 on; nothing after. List: version (16) 0x0200 or 0x0201; signature algorithm (16) 0x0010 or 0x0014; elements size (32); \
             elements that fill it exactly; if signed, counter (16), key size (16) 256 or 384, key, signature. Element: size (32) ≥ 12, type \
             (32), control (32), body. Type 0x10 body: SINITMinVersion (8), reserved (8), HashAlg (16) 0x0004, 0x000B, 0x000C, 0x000D or \
-            0x0012, count (16), exactly that many digests. Type 0x14 body: HashAlg, count and digests likewise, and nothing before them.",
+            0x0012, count (16), exactly that many digests. Type 0x14 body: HashAlg, count and digests likewise, and nothing before them. The \
+            answer has a place, as 36 in `refused 27 at 36`: the offset of the first field, in file order, whose rule fails or that does not \
+            fit. Mark and 4 zeros are one field, the 3 zeros another. A size or a count of digests that reaches past what holds it is wrong \
+            itself, and the key size stands for key and signature; what follows the last field of an element, of a list's elements or of the \
+            file is named by its first byte.",
         causes: &[
             "The size in OsSinitData is rounded up, so that bytes follow the last list.",
             "The file is a policy list (`.lst`) or a record (`.pol`) instead of the policy data file.",
@@ -592,10 +596,14 @@ pub static TEXTS: [Text; 30] = [
             "The file is damaged.",
         ],
         technician: &[
-            "Run `bleiwurzel policy FILE` on the policy file from the store. If it is accepted there, the size in OsSinitData or the loading is \
-             wrong; else the file itself.",
-            "If the file itself is wrong, compare its checksum with the store's (`sha256sum FILE`). If they differ, copy it again; else hand the field \
-             and its offset to the builder.",
+            "Run `bleiwurzel policy FILE` on the policy file from the store; where it is wrong, it shows the field with the bytes around it. If it is \
+             accepted there, the size in OsSinitData or the loading is wrong; else the file itself.",
+            "Look at the place N of `refused 27 at N`, which counts from the file's first byte; in memory that is the policy file base in \
+             OsSinitData plus N. If N is 0, this is no policy data file, or it was loaded elsewhere. If N is the file's size, a field is missing \
+             there: the file is cut off, or its list count (offset 35) is too large. If bytes follow the last list, the size in OsSinitData is too \
+             large.",
+            "If the file itself is wrong, compare its checksum with the store's (`sha256sum FILE`). If they differ, copy it again; else hand the place, \
+             the field and its value to the builder.",
         ],
         builder: &[
             concat!("Make a list of version 0x200 or 0x201, unsigned or signed with RSASSA and 2,048 or 3,072 bits: ", make_list!(), "."),

@@ -3,8 +3,8 @@
 mod common;
 
 use bleiwurzel::capture::Unfit;
-use bleiwurzel::{answer, answer_capture, capture, finding, Answer, MOST_PAGES};
-use common::{captures, image, outputs, printed, put, top, Shape, UNTOUCHED};
+use bleiwurzel::{answer, answer_capture, capture, finding, MOST_PAGES};
+use common::{captures, hold_place, image, outputs, printed, put, top, Shape, UNTOUCHED};
 
 fn untouched_after(pages: &[u64], count: u32) -> bool {
     pages[count as usize..].iter().all(|page| *page == UNTOUCHED)
@@ -22,8 +22,9 @@ fn every_capture_has_its_output() {
         assert_eq!(printed(&given, &pages), expected[&name], "{name}");
         assert!(untouched_after(&pages, given.pages), "{name}: a place past the pages was written");
         if given.number != 0 {
-            assert_eq!(given, Answer { number: given.number, pages: 0, list: 255, digest: [0; 32] }, "{name}");
+            assert_eq!((given.pages, given.list, given.digest), (0, 255, [0; 32]), "{name}");
         }
+        hold_place(&name, &given, capture::split(&bytes).ok());
     }
 }
 
@@ -49,8 +50,9 @@ fn the_finding_comes_to_the_same_number() {
     for (name, bytes) in captures() {
         let given = answer_capture(&bytes, &mut vec![0; MOST_PAGES]);
         let found = finding::first_in_capture(&bytes, MOST_PAGES);
-        assert_eq!(found.map_or(0, |finding| finding.number), given.number, "{name}");
-        assert_eq!(finding::find_in_capture(given.number, &bytes, MOST_PAGES).is_some(), given.number != 0, "{name}");
+        assert_eq!(found.as_ref().map_or(0, |finding| finding.number), given.number, "{name}");
+        let of_answer = given.result().err().and_then(|refusal| finding::find_in_capture(refusal, &bytes, MOST_PAGES));
+        assert_eq!(of_answer, found, "{name}");
     }
 }
 

@@ -1,9 +1,9 @@
 //! Damaged copies of images and captures, made in place and with a fixed seed. Each ends with one answer, leaves the page list alone on a
-//! refusal, and has the number that the finding comes to.
+//! refusal, and has the number that the finding comes to; of a policy file the place of its first fault is worked out beside it.
 
 mod common;
 
-use bleiwurzel::{answer, answer_capture, finding, policy, Answer, Platform, MOST_HEAP, MOST_PAGES, MOST_WINDOW};
+use bleiwurzel::{answer, answer_capture, capture, finding, policy, Answer, Platform, MOST_HEAP, MOST_PAGES, MOST_WINDOW};
 use common::*;
 use plain_sha256::digest_in_parts;
 use std::collections::BTreeMap;
@@ -155,6 +155,7 @@ fn damage_image(name: &str, mut image: Image, times: usize, seed: u64, counts: &
         let name = format!("{name}, damage {turn}");
         let given = answer(&image.parts(), &image.platform, &mut pages);
         judge(&given, &pages, finding::first(&image.parts(), &image.platform, MOST_PAGES), &name);
+        hold_place(&name, &given, Some((image.parts(), image.platform)));
         if given.number == 0 {
             let listed = &pages[..given.pages as usize];
             assert_eq!(given.digest, digest_of(&image.window, image.platform.window_base, listed), "{name}");
@@ -242,6 +243,7 @@ fn policy_files_with_their_hash() {
         let given = answer(&damaged.parts(), &damaged.platform, &mut pages);
         let found = finding::first(&damaged.parts(), &damaged.platform, MOST_PAGES);
         judge(&given, &pages, found, &format!("damage {turn}"));
+        hold_place(&format!("damage {turn}"), &given, Some((damaged.parts(), damaged.platform)));
         pages[..given.pages as usize].fill(UNTOUCHED);
         *counts.entry(given.number).or_default() += 1;
         damage.repair(&mut file);
@@ -277,6 +279,7 @@ fn captures() {
             let name = format!("{name}, damage {turn}");
             let given = answer_capture(&bytes, &mut pages);
             judge(&given, &pages, finding::first_in_capture(&bytes, MOST_PAGES), &name);
+            hold_place(&name, &given, capture::split(&bytes).ok());
             pages[..given.pages as usize].fill(UNTOUCHED);
             damage.repair(&mut bytes);
             turns += 1;

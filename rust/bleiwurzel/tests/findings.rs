@@ -7,11 +7,21 @@ mod stored_image;
 mod tool;
 
 use bleiwurzel::finding::{self, AtHand, Finding, Lengths};
-use bleiwurzel::{capture, policy, refusals, sha256, MOST_PAGES, MOST_STM};
+use bleiwurzel::{capture, policy, refusals, sha256, Refusal, MOST_PAGES, MOST_STM};
 use common::*;
 use std::time::{Duration, Instant};
 use stored_image::*;
 use tool::*;
+
+/// A refusal that has no place.
+fn refused(number: u32) -> Refusal {
+    Refusal { number, place: 0 }
+}
+
+/// What is found in a policy file that is refused.
+fn found_in(file: &[u8]) -> Option<Finding> {
+    finding::find_in_policy(policy::read(file).err()?, file)
+}
 
 fn found(name: &str) -> Finding {
     let bytes = std::fs::read(stored(name)).expect("a stored capture");
@@ -59,7 +69,7 @@ fn outside(dpr: (u64, u64), low: (u64, u64), page: u64, expected: &str, notes: &
     );
     let found = format!("page {:#x} to {:#x}", 0x103000 + linear, 0x103fff + linear);
     let notes = notes.iter().map(|note| note.to_string()).collect();
-    assert_eq!(finding, Finding { number: 20, place, expected: expected.to_string(), found, notes });
+    assert_eq!(finding, Finding { number: 20, place, expected: expected.to_string(), found, notes, bytes: None });
 }
 
 /// All three regions are named.
@@ -119,11 +129,14 @@ fn lengths_are_exact_where_they_are_known() {
     let mut image = image(&Shape::default());
     image.record.push(0);
     let whole = capture::make(&image.parts(), &image.platform).expect("a capture");
-    assert_eq!(finding::find_in_capture(23, &whole, MOST_PAGES).map(|finding| finding.found), Some("71 bytes".to_string()));
+    assert_eq!(
+        finding::find_in_capture(refused(23), &whole, MOST_PAGES).map(|finding| finding.found),
+        Some("71 bytes".to_string())
+    );
     let folder = folder("lengths_are_exact");
     let words = written(&folder, &image);
     assert!(run_with(&["check"], &words, &[]).out.contains("\n  found     71 bytes or more\n"));
-    let long = |length: usize| finding::find_in_policy(26, &vec![0; length]).map(|finding| finding.found);
+    let long = |length: usize| finding::find_in_policy(refused(26), &vec![0; length]).map(|finding| finding.found);
     assert_eq!((long(65_537), long(1)), (Some("65537 bytes".to_string()), Some("1 byte".to_string())));
     assert_eq!(finding::first_in_capture(&vec![0; 70_000], 0).map(|finding| finding.found), Some("70000 bytes".to_string()));
 }
@@ -135,11 +148,8 @@ fn all_texts() -> Vec<String> {
     findings.extend((0..=76).filter_map(|length| finding::first_in_capture(&captures()[0].1[..length], MOST_PAGES)));
     for name in ["three-0x201.data", "signed2048-0x200.data"] {
         let file = std::fs::read(top().join("crates/policy_show/data").join(name)).expect("a policy file");
-        findings.extend((0..file.len()).filter_map(|length| {
-            policy::read(&file[..length]).err().and_then(|refusal| finding::find_in_policy(refusal.number, &file[..length]))
-        }));
-        let more = [&file[..], &[0]].concat();
-        findings.extend(finding::find_in_policy(27, &more));
+        findings.extend((0..file.len()).filter_map(|length| found_in(&file[..length])));
+        findings.extend(found_in(&[&file[..], &[0]].concat()));
     }
     findings
         .into_iter()
@@ -157,19 +167,6 @@ fn one_is_not_many() {
             .windows(2)
             .find(|two| two[0] == "1" && ["bytes", "pages", "places", "digests"].contains(&two[1].trim_end_matches(',')));
         assert_eq!(many, None, "{text}");
-    }
-}
-
-/// The digests of an element that they do not fill.
-#[test]
-fn how_many_bytes_digests_make() {
-    for (count, body, expected) in [
-        (0, &[0; 32][..], "0 digests, which make 18 bytes with what stands before"),
-        (1, &[], "1 digest, which makes 50 bytes with what stands before"),
-        (2, &[0; 32], "2 digests, which make 82 bytes with what stands before"),
-    ] {
-        let (file, _) = policy_file(&[list(&[element(0x10, &launch_body(0, 0x000b, count, body))])]);
-        assert_eq!(finding::find_in_policy(27, &file).map(|finding| finding.found).as_deref(), Some(expected));
     }
 }
 
@@ -216,7 +213,7 @@ fn with_stm(stm: &[u8], lists: impl Fn([u8; 32]) -> Vec<Vec<u8>>) -> Image {
 /// The reason for each list that does not permit.
 fn reasons(stm: &[u8], lists: impl Fn([u8; 32]) -> Vec<Vec<u8>>) -> Vec<String> {
     let image = with_stm(stm, lists);
-    finding::find(29, &image.parts(), &image.platform, MOST_PAGES).map_or(Vec::new(), |finding| finding.notes)
+    finding::find(refused(29), &image.parts(), &image.platform, MOST_PAGES).map_or(Vec::new(), |finding| finding.notes)
 }
 
 #[test]
@@ -339,7 +336,8 @@ fn what_is_expected_of_a_list() {
     );
     let found = "1 in the file, and none like that".to_string();
     let place = "the lists of the policy file, counted from 0".to_string();
-    assert_eq!(finding, Finding { number: 29, place, expected, found, notes: vec![format!("list 0: {UNVERIFIED}")] });
+    let notes = vec![format!("list 0: {UNVERIFIED}")];
+    assert_eq!(finding, Finding { number: 29, place, expected, found, notes, bytes: None });
 }
 
 /// The times of the STM image's digest, of the check and of the finding, which take turns: the best of three each.
@@ -427,8 +425,8 @@ fn the_digest_at_hand_is_that_of_the_image() {
     let begin = image.offset(image.listed[0]);
     assert_eq!(digest, sha256(&image.window[begin..begin + MOST_PAGES * PAGE]));
     let at_hand = AtHand { lengths: Lengths::of(&parts), digest: Some(digest) };
-    let found = finding::find_with(29, &parts, &at_hand, &image.platform, MOST_PAGES);
-    assert!(found.is_some() && found == finding::find(29, &parts, &image.platform, MOST_PAGES));
+    let found = finding::find_with(refused(29), &parts, &at_hand, &image.platform, MOST_PAGES);
+    assert!(found.is_some() && found == finding::find(refused(29), &parts, &image.platform, MOST_PAGES));
 }
 
 /// The finding for 29 reads the image where it stands: the refusal needs no more memory than a permission, but for a fourth of the image.

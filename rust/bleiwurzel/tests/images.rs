@@ -17,9 +17,10 @@ fn of(shape: Shape) -> Image {
 #[test]
 fn two_pages() {
     let image = of(Shape::default());
-    assert_eq!(asked("two pages", &image), Answer { number: 0, pages: 2, list: 255, digest: digest_in_parts(&image.bytes(), 0) });
+    let digest = digest_in_parts(&image.bytes(), 0);
+    assert_eq!(asked("two pages", &image), Answer { number: 0, pages: 2, list: 255, place: 0, digest });
     let permission = check(&image.parts(), &image.platform, &mut [0; 2]);
-    assert_eq!(permission, Ok(Permission { pages: 2, list: None, digest: digest_in_parts(&image.bytes(), 0) }));
+    assert_eq!(permission, Ok(Permission { pages: 2, list: None, digest }));
 }
 
 #[test]

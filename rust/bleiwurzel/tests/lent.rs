@@ -7,7 +7,7 @@
 mod common;
 
 use bleiwurzel::{answer, finding, Parts, Platform};
-use common::{outputs, printed, UNTOUCHED};
+use common::{hold_place, outputs, printed, UNTOUCHED};
 use std::path::{Path, PathBuf};
 
 fn folder() -> PathBuf {
@@ -62,6 +62,7 @@ fn hold(name: &str, parts: &Parts<'_>, platform: &Platform, places: usize, expec
     assert!(pages[given.pages as usize..].iter().all(|page| *page == UNTOUCHED), "{name}: a place past the pages was written");
     let found = finding::first(parts, platform, places);
     assert_eq!(found.map_or(0, |finding| finding.number), given.number, "{name}: the finding's number");
+    hold_place(name, &given, Some((*parts, *platform)));
 }
 
 #[test]

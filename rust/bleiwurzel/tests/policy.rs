@@ -1,9 +1,9 @@
-//! The reader of policy files through the crate: the readings of all stored files, parts that are not there, and damaged files.
+//! The reader of policy files through the crate: the readings of all stored files, parts that are not there, lengths and signatures.
 
 mod common;
 
 use bleiwurzel::policy::{self, Body, Element, List};
-use bleiwurzel::{finding, Refusal};
+use bleiwurzel::Refusal;
 use common::top;
 
 fn hex(bytes: &[u8]) -> String {
@@ -53,7 +53,7 @@ fn element_lines(file: &[u8], i: usize, j: usize, element: &Element) -> String {
 fn shown(file: &[u8]) -> String {
     let count = match policy::read(file) {
         Ok(count) => count,
-        Err(Refusal { number }) => return format!("refused {number}\n"),
+        Err(refusal) => return format!("{}\n", refusal.line()),
     };
     let mut text = format!("accepted lists={count}\n");
     let in_turn: Vec<_> = policy::lists(file).collect();
@@ -164,15 +164,19 @@ fn where_digests_stand() {
     }
 }
 
+fn refused(number: u32, place: u32) -> Result<usize, Refusal> {
+    Err(Refusal { number, place })
+}
+
 #[test]
 fn lengths() {
     let (mut file, _) = common::policy_file(&[common::list(&[common::element(3, &vec![0; 65_536 - 36 - 8 - 12])])]);
     assert_eq!((file.len(), policy::read(&file)), (65_536, Ok(1)));
     file.push(0);
-    assert_eq!(policy::read(&file), Err(Refusal { number: 26 }));
-    assert_eq!(policy::read(&file[..35]), Err(Refusal { number: 26 }));
-    assert_eq!(policy::read(&file[..36]), Err(Refusal { number: 27 }));
-    assert_eq!(policy::read(&[]), Err(Refusal { number: 26 }));
+    assert_eq!(policy::read(&file), refused(26, 0));
+    assert_eq!(policy::read(&file[..35]), refused(26, 0));
+    assert_eq!(policy::read(&file[..36]), refused(27, 36));
+    assert_eq!(policy::read(&[]), refused(26, 0));
 }
 
 /// The signature of a list covers every byte of it up to the signature itself, and no byte of another list.
@@ -192,39 +196,11 @@ fn signatures() {
     }
 }
 
-/// Every byte of some files is changed in several ways; reader and finding come to the same number.
-#[test]
-fn damaged_files() {
-    let mut refused = 0;
-    let mut all = 0;
-    for name in ["signed2048-0x200.data", "three-0x201.data", "plain-0x200.data", "eight-0x201.data"] {
-        let mut file = std::fs::read(folder().join("data").join(name)).expect("a stored policy file");
-        for at in 0..file.len() {
-            let kept = file[at];
-            for value in [kept ^ 1, kept.wrapping_add(16), kept.wrapping_sub(1), 0xff] {
-                file[at] = value;
-                let number = policy::read(&file).err().map_or(0, |refusal| refusal.number);
-                let found = finding::find_in_policy(27, &file).map_or(0, |finding| finding.number);
-                assert_eq!(found, number, "{name}, byte {at} is {value:#x}");
-                refused += usize::from(number != 0);
-                all += 1;
-            }
-            file[at] = kept;
-        }
-        for length in 36..file.len() {
-            assert_eq!(policy::read(&file[..length]), Err(Refusal { number: 27 }), "{name} cut to {length}");
-            assert!(finding::find_in_policy(27, &file[..length]).is_some(), "{name} cut to {length}");
-        }
-    }
-    assert!(refused > 500 && refused < all, "{refused} of {all} are refused");
-}
-
 #[test]
 fn list_counts() {
     for count in 0..=10 {
         let (file, _) = common::policy_file(&vec![common::list(&[]); count]);
-        let expected = if (1..=8).contains(&count) { Ok(count) } else { Err(Refusal { number: 27 }) };
+        let expected = if (1..=8).contains(&count) { Ok(count) } else { refused(27, 35) };
         assert_eq!(policy::read(&file), expected, "{count} lists");
-        assert_eq!(finding::find_in_policy(27, &file).is_some(), expected.is_err(), "{count} lists");
     }
 }

@@ -18,6 +18,7 @@ extern "C" {
         pages: *mut u64,
         places: usize,
         counts: *mut [u32; 2],
+        place: *mut [u32; 1],
         digest: *mut [u8; 32],
     ) -> u32;
 }
@@ -27,13 +28,17 @@ const SIZE: usize = 1 << 16;
 #[repr(C, align(16))]
 struct Stack([u8; SIZE]);
 
+/// The bytes above the top: a seventh argument stands there, and the top is a multiple of 16.
+const ABOVE: usize = 16;
+
 /// How many bytes from the top down to the deepest that a call has changed, where every byte was `paint`.
 ///
 /// # Safety
 /// The function takes these arguments, of which there may be more than it has, and needs less than `SIZE` bytes of stack.
-unsafe fn taken(stack: &mut Stack, paint: u8, function: *const (), arguments: [usize; 6]) -> usize {
+unsafe fn taken(stack: &mut Stack, paint: u8, function: *const (), arguments: [usize; 7]) -> usize {
     stack.0.fill(paint);
-    let top = stack.0.as_mut_ptr_range().end;
+    stack.0[SIZE - ABOVE..][..8].copy_from_slice(&arguments[6].to_ne_bytes());
+    let top = stack.0.as_mut_ptr_range().end.sub(ABOVE);
     // The callee leaves r12 as it is, so the stack before is back at the end.
     asm!(
         "mov r12, rsp",
@@ -51,11 +56,12 @@ unsafe fn taken(stack: &mut Stack, paint: u8, function: *const (), arguments: [u
         out("r12") _,
         clobber_abi("C"),
     );
-    SIZE - stack.0.iter().position(|&byte| byte != paint).expect("the call has written nothing")
+    let changed = stack.0[..SIZE - ABOVE].iter().position(|&byte| byte != paint);
+    SIZE - ABOVE - changed.expect("the call has written nothing")
 }
 
 /// The most that a call takes. A byte of the deepest frame may happen to be the paint, but not both paints.
-unsafe fn deepest(stack: &mut Stack, function: *const (), arguments: [usize; 6]) -> usize {
+unsafe fn deepest(stack: &mut Stack, function: *const (), arguments: [usize; 7]) -> usize {
     taken(stack, 0x5a, function, arguments).max(taken(stack, 0xa5, function, arguments))
 }
 
@@ -67,7 +73,7 @@ fn the_digest() {
     let mut most = 0;
     for length in [0, 1, 55, 56, 63, 64, 65, 119, 120, 128, 4096, 4097] {
         let mut digest = [0u8; 32];
-        let arguments = [message.as_ptr() as usize, length, &mut digest as *mut _ as usize, 0, 0, 0];
+        let arguments = [message.as_ptr() as usize, length, &mut digest as *mut _ as usize, 0, 0, 0, 0];
         // SAFETY: the arguments are as include/bleiwurzel.h says, and the bound is far below the size.
         most = most.max(unsafe { deepest(&mut stack, bleiwurzel_sha256 as *const (), arguments) });
         assert_eq!(digest, bleiwurzel::sha256(&message[..length]), "length {length}");
@@ -78,21 +84,24 @@ fn the_digest() {
 
 #[test]
 fn the_check_of_every_stored_capture() {
-    const AT_MOST: usize = 4368;
+    const AT_MOST: usize = 4240;
     let mut stack = Box::new(Stack([0; SIZE]));
     let mut most = 0;
-    for (_, capture) in captures() {
-        let (mut pages, mut counts, mut digest) = (vec![0u64; MOST_PAGES], [0u32; 2], [0u8; 32]);
+    for (name, capture) in captures() {
+        let given = bleiwurzel::answer_capture(&capture, &mut vec![0; MOST_PAGES]);
+        let (mut pages, mut counts, mut place, mut digest) = (vec![0u64; MOST_PAGES], [0u32; 2], [0u32; 1], [0u8; 32]);
         let arguments = [
             capture.as_ptr() as usize,
             capture.len(),
             pages.as_mut_ptr() as usize,
             pages.len(),
             &mut counts as *mut _ as usize,
+            &mut place as *mut _ as usize,
             &mut digest as *mut _ as usize,
         ];
         // SAFETY: as above.
         most = most.max(unsafe { deepest(&mut stack, bleiwurzel_check_capture as *const (), arguments) });
+        assert_eq!((place[0], digest), (given.place, given.digest), "{name}");
     }
     println!("the check of a capture takes {most} bytes of stack");
     assert!(most <= AT_MOST, "the check of a capture takes {most} bytes of stack, more than {AT_MOST}");

@@ -29,9 +29,12 @@ fn every_number_has_its_text() {
         for points in [entry.causes, entry.technician, entry.builder] {
             assert!(!points.is_empty() && points.iter().all(|point| point.ends_with('.')), "{number}");
         }
-        assert_eq!(Refusal { number }.meaning(), entry.meaning);
-        assert_eq!(Refusal { number }.to_string(), format!("refused {number}: {}", entry.meaning));
+        let refusal = Refusal { number, place: 36 };
+        assert_eq!(refusal.meaning(), entry.meaning);
+        let line = if number == 27 { "refused 27 at 36".to_string() } else { format!("refused {number}") };
+        assert_eq!((refusal.line(), refusal.to_string()), (line.clone(), format!("{line}: {}", entry.meaning)));
     }
+    assert_eq!(Refusal { number: 27, place: 0 }.line(), "refused 27 at 0");
     assert!(text(0).is_none() && text(31).is_none());
 }
 

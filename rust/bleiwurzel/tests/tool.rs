@@ -32,6 +32,15 @@ fn a_refused_capture() {
     );
 }
 
+#[test]
+fn a_refused_policy_file() {
+    let path = top().join("crates/policy_show/data/27-list-sigalg-0015.pol");
+    let ran = run(&["policy", &path.to_string_lossy()]);
+    let shown = shown_in_readme("refused 27 at 38, policy grammar");
+    let begin = shown.strip_suffix("..\n").expect("a block that goes on");
+    assert!(ran.status == REFUSED && ran.out.starts_with(begin), "{}", ran.out);
+}
+
 /// What README shows as output that begins with this line: an indented block, up to the next line that is not indented.
 fn shown_in_readme(first: &str) -> String {
     let readme = std::fs::read_to_string(top().join("README.md")).expect("README.md");
@@ -45,7 +54,8 @@ fn shown_in_readme(first: &str) -> String {
 fn every_capture_by_the_tool() {
     let mut met = [0; 31];
     for (name, bytes) in captures() {
-        let number = answer_capture(&bytes, &mut vec![0; MOST_PAGES]).number;
+        let given = answer_capture(&bytes, &mut vec![0; MOST_PAGES]);
+        let number = given.number;
         met[number as usize] += 1;
         if met[number as usize] > 4 {
             continue;
@@ -59,8 +69,10 @@ fn every_capture_by_the_tool() {
             assert!(plain.out.starts_with("permitted\n"), "{name}: {}", plain.out);
             continue;
         }
-        let found = finding::find_in_capture(number, &bytes, MOST_PAGES).expect("a finding");
-        assert!(plain.out.starts_with(&format!("refused {number}, ")), "{name}: {}", plain.out);
+        let refusal = given.result().expect_err("a refusal");
+        let found = finding::find_in_capture(refusal, &bytes, MOST_PAGES).expect("a finding");
+        assert!(plain.out.starts_with(&format!("{}, ", refusal.line())), "{name}: {}", plain.out);
+        assert!(json.out.contains(&format!("\"number\": {number}, \"place\": {},", refusal.place)), "{name}: {}", json.out);
         for part in ["\n  where     ", "\n  expected  ", "\n  found     ", "\nWhat to do at the rack\n  - "] {
             assert!(plain.out.contains(part), "{name}: {}", plain.out);
         }

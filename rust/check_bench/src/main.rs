@@ -1,7 +1,8 @@
 //! Times the whole check of an image of two pages with the longest STM image. Where no list that could permit holds an STM element, against the
 //! same check without an STM image; where lists do, against the digest of the STM image. Then the check with signed lists that name another image,
-//! against the same lists unsigned: no signature of theirs is verified, which takes several times as long as all else. The two sides take turns
-//! in one process.
+//! against the same lists unsigned: no signature of theirs is verified, which takes several times as long as all else. Last the reading of a policy
+//! file of eight lists and 65,536 bytes, against its digest; and where it is refused at its last byte, against its reading where it is accepted:
+//! to know the place takes no second reading. The two sides take turns in one process.
 //!
 //! With `--at-most R` it fails where the check takes more than R times as long as the other side. For that the median of the ratios of
 //! neighbouring runs counts, which another program on the machine changes least.
@@ -9,7 +10,7 @@
 #[path = "../../bleiwurzel/tests/common/mod.rs"]
 mod common;
 
-use bleiwurzel::{answer, sha256, Parts, MOST_STM};
+use bleiwurzel::{answer, policy, sha256, Parts, Refusal, MOST_STM};
 use common::*;
 use std::time::{Duration, Instant};
 
@@ -112,6 +113,33 @@ fn naming_others() -> [Case; 2] {
     [case("seven signed lists that name other images", verifiable(&others)), case("the same unsigned", list(&others))]
 }
 
+/// A policy file of eight lists with launch elements of one digest each, and an element of type 3 that makes it as long as a policy file can be; and
+/// the same with that element a byte shorter, and a byte behind the last list.
+fn longest() -> [Vec<u8>; 2] {
+    let elements = vec![launch(0, &[[1; 32]]); 163];
+    let with = |filler: usize| {
+        let last = [elements.clone(), vec![element(policy::CUSTOM, &vec![7; filler])]].concat();
+        policy_file(&[vec![list(&elements); 7], vec![list(&last)]].concat()).0
+    };
+    let filler = policy::MOST - with(0).len();
+    let (whole, mut shorter) = (with(filler), with(filler - 1));
+    shorter.push(0);
+    [whole, shorter]
+}
+
+/// The reading of a policy file, against its digest, and of one that is refused at its last byte.
+fn compare_reading() -> f64 {
+    let [file, refused] = longest();
+    let at_the_end = Refusal { number: 27, place: policy::MOST as u32 - 1 };
+    let read = || assert_eq!(policy::read(&file), Ok(8));
+    let refuse = || assert_eq!(policy::read(&refused), Err(at_the_end));
+    let digest = || {
+        sha256(&file);
+    };
+    let reading = compare("reading an eight-list file of 65,536 bytes, and its digest", CHECKS, read, digest);
+    reading.max(compare("refusing such a file at its last byte, and accepting it", CHECKS, refuse, read))
+}
+
 fn main() {
     let words: Vec<String> = std::env::args().skip(1).collect();
     let limit = match words.as_slice() {
@@ -134,6 +162,7 @@ fn main() {
     let [signed, unsigned] = naming_others();
     let name = format!("{}, and {}", signed.name, unsigned.name);
     greatest = greatest.max(compare(&name, CHECKS, || signed.check(&[]), || unsigned.check(&[])));
+    greatest = greatest.max(compare_reading());
     if greatest > limit {
         eprintln!("more than {limit} times as long");
         std::process::exit(1);

@@ -96,8 +96,9 @@ fn show(words: Vec<OsString>) -> Result<Said, Misuse> {
     Ok(match capture::split(&file.bytes) {
         Ok((parts, platform)) => Said { text: shown(&file.bytes, &parts, &platform, json), status: YES },
         Err(_) => {
-            let found = finding::find_in_capture(30, &file.bytes, 0).map(|found| file.or_more(found));
-            report::refused(Refusal { number: 30 }, found.as_ref(), SHOW, json)
+            let refusal = Refusal { number: 30, place: 0 };
+            let found = finding::find_in_capture(refusal, &file.bytes, 0).map(|found| file.or_more(found));
+            report::refused(refusal, found.as_ref(), SHOW, json)
         }
     })
 }

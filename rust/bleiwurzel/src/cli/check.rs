@@ -102,7 +102,7 @@ fn of_parts(loaded: &Loaded, platform: &Platform, json: bool) -> Said {
         Err(refusal) => {
             // Before 29 the image is not hashed, and no finding asks for its digest.
             let at_hand = AtHand { lengths: loaded.lengths(), digest: Some(digest) };
-            let found = finding::find_with(refusal.number, &parts, &at_hand, platform, pages.len());
+            let found = finding::find_with(refusal, &parts, &at_hand, platform, pages.len());
             report::refused(refusal, found.as_ref(), HELP, json)
         }
     }
@@ -123,7 +123,7 @@ fn of_capture(args: &Args) -> Result<Said, Misuse> {
     Ok(match bleiwurzel::check_capture(&file.bytes, &mut pages) {
         Ok(permission) => report::permitted(&permission, &pages, json),
         Err(refusal) => {
-            let found = finding::find_in_capture(refusal.number, &file.bytes, pages.len()).map(|found| file.or_more(found));
+            let found = finding::find_in_capture(refusal, &file.bytes, pages.len()).map(|found| file.or_more(found));
             report::refused(refusal, found.as_ref(), HELP, json)
         }
     })

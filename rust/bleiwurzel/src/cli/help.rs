@@ -78,9 +78,11 @@ Answers:
               that permits (counted from 0; none under ANY), and SHA-256 over
               the pages. Exit status 0.
   refused     the number, what it means, what was found and where, and what to
-              do. Exit status 1. The number is the proved check's. What was
-              found is worked out beside it; where that cannot say, it says
-              nothing.
+              do. Exit status 1. The number is the proved check's, and so is
+              the place of a 27, as in \"refused 27 at 36\": the offset of the
+              policy file's first wrong field (in JSON \"place\", which is 0 with
+              every other number). What was found is worked out beside it;
+              where that cannot say, it says nothing.
   no answer   the call was wrong, or a file cannot be read; standard error says
               what to do. Exit status 2, for this help too.
 
@@ -108,9 +110,13 @@ It shows every list with its elements, digests, key and signature, each with its
 offset in the file, whether the signature verifies, and whether the list can
 permit an image at all; one that holds STM elements can only with an STM image
 that it names, and a signed one only under a record that asks for no greater
-counter. A file of fewer than 36 or more than 65536 bytes is refused with 26,
-one that is not of the grammar with 27, and then the field that is wrong is
-shown. Exit status 0 or 1.
+counter. Exit status 0.
+
+A file of fewer than 36 or more than 65536 bytes is refused with 26, one that is
+not of the grammar with 27 and the place of the first wrong field, its offset
+from the file's first byte: \"refused 27 at 38\". Then the field is named, with
+what was expected and found there, and its bytes are marked in a few lines of
+the file; in JSON the place is the number \"place\". Exit status 1.
 
 What keeps a list from permitting, and what tboot's tools have to do with it:
 bleiwurzel refusals 29

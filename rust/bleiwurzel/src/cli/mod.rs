@@ -3,6 +3,7 @@
 mod args;
 mod capture;
 mod check;
+mod dump;
 mod files;
 mod help;
 mod json;

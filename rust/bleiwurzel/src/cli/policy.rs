@@ -1,7 +1,7 @@
 //! `bleiwurzel policy`: the reading of a policy file, in the manner of tboot's `lcp2_crtpol --show`.
 
 use super::json::{hex, Json};
-use super::{args, files, help, report, Misuse, Said, YES};
+use super::{args, dump, files, help, report, Misuse, Said, YES};
 use bleiwurzel::policy::{self, Body, Digests, Element, List, Signed};
 use bleiwurzel::text::{bytes, digits};
 use bleiwurzel::{finding, RECORD_LENGTH};
@@ -20,11 +20,13 @@ pub fn run(words: Vec<OsString>) -> Result<Said, Misuse> {
     Ok(match policy::read(&file.bytes) {
         Ok(_) => Said { text: shown(&file.bytes, json), status: YES },
         Err(refusal) => {
-            let mut found = finding::find_in_policy(refusal.number, &file.bytes).map(|found| file.or_more(found));
+            let mut found = finding::find_in_policy(refusal, &file.bytes).map(|found| file.or_more(found));
             if let Some(found) = &mut found {
                 found.notes.extend(record_hint(&file.bytes));
             }
-            report::refused(refusal, found.as_ref(), HELP, json)
+            let field = found.as_ref().and_then(|found| found.bytes.as_ref());
+            let lines = field.map(|field| dump::around(&file.bytes, &(field.start as usize..field.end as usize)));
+            report::refused_in(refusal, found.as_ref(), &lines.unwrap_or_default(), HELP, json)
         }
     })
 }

@@ -59,7 +59,12 @@ fn permitted_json(permission: &Permission, ranges: &[(u64, u64)]) -> Json {
 
 /// A refusal that `command` met.
 pub fn refused(refusal: Refusal, finding: Option<&Finding>, command: &str, json: bool) -> Said {
-    let text = if json { refused_json(refusal, finding, command).line() } else { refused_text(refusal, finding, command) };
+    refused_in(refusal, finding, "", command, json)
+}
+
+/// The same with lines that show the place to people; they follow the finding.
+pub fn refused_in(refusal: Refusal, finding: Option<&Finding>, lines: &str, command: &str, json: bool) -> Said {
+    let text = if json { refused_json(refusal, finding, command).line() } else { refused_text(refusal, finding, lines, command) };
     Said { text, status: NO }
 }
 
@@ -69,15 +74,15 @@ fn technician(about: &Text, command: &str) -> Vec<&'static str> {
     about.technician.iter().copied().filter(|point| !point.contains(&same)).collect()
 }
 
-fn refused_text(refusal: Refusal, finding: Option<&Finding>, command: &str) -> String {
-    let number = refusal.number;
+fn refused_text(refusal: Refusal, finding: Option<&Finding>, lines: &str, command: &str) -> String {
+    let line = refusal.line();
     let about = match refusal.text() {
         Some(about) => about,
         None => {
-            return format!("refused {number}\n");
+            return format!("{line}\n");
         }
     };
-    let mut text = format!("refused {number}, {}\n", about.name);
+    let mut text = format!("{line}, {}\n", about.name);
     wrapped(&mut text, "", about.meaning);
     if let Some(finding) = finding {
         text.push_str("\nWhat was found\n");
@@ -86,9 +91,12 @@ fn refused_text(refusal: Refusal, finding: Option<&Finding>, command: &str) -> S
         wrapped(&mut text, "  found     ", &finding.found);
         finding.notes.iter().for_each(|note| wrapped(&mut text, "            ", note));
     }
+    if !lines.is_empty() {
+        text.push_str(&format!("\n{lines}"));
+    }
     points(&mut text, "What to do at the rack", &technician(about, command));
     points(&mut text, "What the image's builder changes", about.builder);
-    text.push_str(&format!("\nThe whole rule and the usual causes: bleiwurzel refusals {number}\n"));
+    text.push_str(&format!("\nThe whole rule and the usual causes: bleiwurzel refusals {}\n", refusal.number));
     text
 }
 
@@ -105,6 +113,7 @@ fn refused_json(refusal: Refusal, finding: Option<&Finding>, command: &str) -> J
     Json::Object(vec![
         ("answer", Json::from("refused")),
         ("number", Json::from(refusal.number)),
+        ("place", Json::from(refusal.place)),
         ("name", about.map_or(Json::Null, |about| Json::from(about.name))),
         ("meaning", Json::from(refusal.meaning())),
         ("finding", found),

@@ -1,12 +1,14 @@
 //! Rules 23 to 26, 28 and 29: the policy record, the policy file's place and hash, and which list permits.
 
-use super::grammar::{Body, Digests, Element, List, Signed};
+use super::grammar::File;
 use super::heap::OsSinitData;
 use super::module::Module;
-use super::{bytes_of, digits, field, need, Finding, Length, Step};
-use crate::{policy, rsa_verify, sha256, RECORD_LENGTH};
+use super::{bytes_of, digits, field, need, noted, Length, Step};
+use crate::policy::{self, Body, Element, List, Signed, SHA256};
+use crate::{sha256, RECORD_LENGTH};
 
-const SHA256: u64 = policy::SHA256 as u64;
+/// A list with its elements.
+type Listed = (List, Vec<Element>);
 
 pub struct Record {
     pub any: bool,
@@ -25,7 +27,7 @@ pub fn record(record: &[u8], length: &Length) -> Step<Record> {
     need(version >> 8 == 3, 23, "version, record offset 0", "high byte 3, as 0x0302", format!("{version:#06x}"))?;
     let algorithm = field(record, 2, 2);
     let expected = format!("{SHA256:#06x} (SHA256)");
-    need(algorithm == SHA256, 23, "HashAlg, record offset 2", expected, format!("{algorithm:#06x}"))?;
+    need(algorithm == u64::from(SHA256), 23, "HashAlg, record offset 2", expected, format!("{algorithm:#06x}"))?;
     let kind = field(record, 4, 1);
     need(kind <= 1, 23, "type, record offset 4", "0 (LIST) or 1 (ANY)", kind.to_string())?;
     Ok(Record {
@@ -58,11 +60,6 @@ pub fn module_version(module: &Module, record: &Record) -> Step<()> {
     need(module.acm_version >= least, 25, module.place("AcmVersion", 36), expected, module.acm_version.to_string())
 }
 
-pub struct File<'a> {
-    pub bytes: &'a [u8],
-    pub base: u64,
-}
-
 /// Rule 26.
 pub fn place<'a>(window: &'a [u8], window_base: u64, asked: &OsSinitData) -> Step<File<'a>> {
     let file = &asked.file;
@@ -78,32 +75,32 @@ pub fn place<'a>(window: &'a [u8], window_base: u64, asked: &OsSinitData) -> Ste
         format!("wholly in the window, from {window_base:#x} up to, not including, {end:#x}"),
         format!("{:#x} + {size:#x} = {:#x}", file.base, file.end()),
     )?;
-    Ok(File { bytes: bytes_of(window, file.base - window_base, size as usize), base: file.base })
+    Ok(File { bytes: bytes_of(window, file.base - window_base, size as usize), base: Some(file.base) })
 }
 
-fn part(file: &[u8], range: &std::ops::Range<u64>) -> Vec<u8> {
-    bytes_of(file, range.start, (range.end - range.start) as usize).to_vec()
+/// What of a list is measured: all of it, or the key where it is signed.
+fn measured<'a>(list: &List, file: &'a [u8]) -> &'a [u8] {
+    file.get(list.signed.as_ref().map_or(&list.bytes, |signed| &signed.key).clone()).unwrap_or_default()
 }
 
 /// Rule 28.
-pub fn hash(lists: &[List], file: &[u8], record: &Record) -> Step<()> {
-    let measured = |list: &List| part(file, list.signed.as_ref().map_or(&list.bytes, |signed| &signed.key));
-    let measures: Vec<[u8; 32]> = lists.iter().map(|list| sha256(&measured(list))).collect();
+pub fn hash(lists: &[Listed], file: &[u8], record: &Record) -> Step<()> {
+    let measures: Vec<[u8; 32]> = lists.iter().map(|(list, _)| sha256(measured(list, file))).collect();
     let hash = sha256(&measures.concat());
     if hash[..] == record.hash {
         return Ok(());
     }
     let kind = |list: &List| if list.signed.is_some() { "key" } else { "list" };
     let notes = lists.iter().zip(&measures).enumerate();
-    Err(Finding {
-        number: 28,
-        place: "PolicyHash, record offset 38".to_string(),
-        expected: format!("{}, the hash of the policy file's lists", digits(&hash)),
-        found: digits(&record.hash),
-        notes: notes
-            .map(|(i, (list, measure))| format!("list {i}: SHA-256 of its {} is {}", kind(list), digits(measure)))
+    noted(
+        28,
+        "PolicyHash, record offset 38",
+        format!("{}, the hash of the policy file's lists", digits(&hash)),
+        digits(&record.hash),
+        notes
+            .map(|(i, ((list, _), measure))| format!("list {i}: SHA-256 of its {} is {}", kind(list), digits(measure)))
             .collect(),
-    })
+    )
 }
 
 /// What a list is judged by besides the STM image.
@@ -133,84 +130,86 @@ impl<'a> Stm<'a> {
 }
 
 /// Rule 29.
-pub fn permits(lists: &[List], file: &[u8], criteria: &Criteria, mut stm: Stm) -> Step<()> {
+pub fn permits(lists: &[Listed], file: &[u8], criteria: &Criteria, mut stm: Stm) -> Step<()> {
     let mut notes = Vec::new();
-    for (i, list) in lists.iter().enumerate() {
-        let why = objections(i, list, file, criteria, &mut stm);
+    for (i, listed) in lists.iter().enumerate() {
+        let why = objections(i, listed, file, criteria, &mut stm);
         if why.is_empty() {
             return Ok(());
         }
         notes.push(format!("list {i}: {}", why.join("; ")));
     }
-    Err(Finding {
-        number: 29,
-        place: "the lists of the policy file, counted from 0".to_string(),
-        expected: format!(
+    noted(
+        29,
+        "the lists of the policy file, counted from 0",
+        format!(
             "a list of types 0x10, 3 and 0x14 only, with a SHA-256 element of type 0x10 that names {} and, if it holds type 0x14, one of \
              that type that names the STM image; if it is signed, a signature that verifies and a counter not below the record's",
             digits(&criteria.digest)
         ),
-        found: format!("{} in the file, and none like that", lists.len()),
+        format!("{} in the file, and none like that", lists.len()),
         notes,
-    })
+    )
 }
 
 /// All that keeps a list from permitting; nothing where it permits. The STM image is looked at last and only where all else is well, since it
 /// has to be hashed for that.
-fn objections(i: usize, list: &List, file: &[u8], criteria: &Criteria, stm: &mut Stm) -> Vec<String> {
-    let mut all = Vec::from_iter(of_elements(list, file, criteria, stm));
+fn objections(i: usize, (list, elements): &Listed, file: &[u8], criteria: &Criteria, stm: &mut Stm) -> Vec<String> {
+    let mut all = Vec::from_iter(of_elements(elements, file, criteria, stm));
     if let Some(signed) = &list.signed {
         all.extend(low_counter(i, signed, criteria.record));
-        all.extend(bad_signature(list.bytes.start, signed, file));
+        all.extend(bad_signature(list, signed, file));
     }
     if all.is_empty() {
-        all.extend(other_stm(list, file, stm));
+        all.extend(other_stm(elements, file, stm));
     }
     all
 }
 
 /// Why the elements of a list do not permit, whatever the digest of the STM image is.
-fn of_elements(list: &List, file: &[u8], criteria: &Criteria, stm: &Stm) -> Option<String> {
-    let named: Vec<Launch> = launches(list).filter(|launch| names(launch.digests, file, &criteria.digest)).collect();
-    if let Some(hindrance) = hindrance(list, stm) {
+fn of_elements(elements: &[Element], file: &[u8], criteria: &Criteria, stm: &Stm) -> Option<String> {
+    let named: Vec<Launch> = launches(elements).filter(|launch| names(launch.element, file, &criteria.digest)).collect();
+    if let Some(hindrance) = hindrance(elements, stm) {
         let also = if named.is_empty() { " (and it does not name the digest)" } else { "" };
         return Some(format!("{hindrance}{also}"));
     }
     if named.is_empty() {
-        return Some(format!("it does not name the digest; it names {}", others(launches(list).map(|launch| launch.digests))));
+        return Some(format!(
+            "it does not name the digest; it names {}",
+            others(launches(elements).map(|launch| launch.element))
+        ));
     }
     too_new(&named, criteria.module.acm_version)
 }
 
 /// Why the elements of a list permit no image, whatever they name.
-fn hindrance(list: &List, stm: &Stm) -> Option<String> {
-    let kinds = list.elements.iter().map(|element| (element.at, element.kind as u32));
+fn hindrance(elements: &[Element], stm: &Stm) -> Option<String> {
+    let kinds = elements.iter().map(|element| (element.bytes.start as u64, element.kind));
     if let Some(hindrance) = policy::hindrance(kinds) {
         return Some(hindrance);
     }
     if !stm.image.is_empty() {
         return None;
     }
-    let (j, element) = list.elements.iter().enumerate().find(|(_, element)| matches!(element.body, Body::Stm(_)))?;
-    Some(format!("element {j} (file offset {:#x}) is an STM element (type 0x14), and no STM image was given", element.at))
+    let (j, element) = elements.iter().enumerate().find(|(_, element)| is_stm(element))?;
+    let at = element.bytes.start;
+    Some(format!("element {j} (file offset {at:#x}) is an STM element (type 0x14), and no STM image was given"))
 }
 
 /// That the counter of a signed list is below the one that the record has for the list of this number.
 fn low_counter(i: usize, signed: &Signed, record: &Record) -> Option<String> {
-    let (counter, asked) = (signed.counter, *record.counters.get(i)?);
+    let (counter, asked) = (u64::from(signed.counter), *record.counters.get(i)?);
     let at = policy::counter_at(i);
     (counter < asked)
         .then(|| format!("its counter {counter} is below {asked}, which the record asks of list {i} (record offset {at})"))
 }
 
-/// That the signature of a list, which begins at this offset, does not verify. What is signed is all that stands before the signature.
-fn bad_signature(begin: u64, signed: &Signed, file: &[u8]) -> Option<String> {
-    let Signed { key, signature, .. } = signed;
-    let verifies = rsa_verify(&part(file, key), &part(file, signature), &part(file, &(begin..signature.start)));
-    (!verifies).then(|| {
+/// That the signature of a list does not verify.
+fn bad_signature(list: &List, Signed { key, signature, .. }: &Signed, file: &[u8]) -> Option<String> {
+    (policy::verifies(file, list) != Some(true)).then(|| {
         format!(
             "its signature does not verify (key of {} bytes at file offset {:#x}, signature at {:#x})",
-            key.end - key.start,
+            key.len(),
             key.start,
             signature.start
         )
@@ -222,35 +221,36 @@ struct Launch<'a> {
     number: usize,
     element: &'a Element,
     sinit_min_version: u64,
-    digests: &'a Digests,
 }
 
-fn launches(list: &List) -> impl Iterator<Item = Launch<'_>> {
-    list.elements.iter().enumerate().filter_map(|(number, element)| match &element.body {
-        Body::Launch { sinit_min_version, digests } => {
-            Some(Launch { number, element, sinit_min_version: *sinit_min_version, digests })
-        }
+fn launches(elements: &[Element]) -> impl Iterator<Item = Launch<'_>> {
+    elements.iter().enumerate().filter_map(|(number, element)| match &element.body {
+        Body::Launch(launch) => Some(Launch { number, element, sinit_min_version: u64::from(launch.sinit_min_version) }),
         _ => None,
     })
 }
 
-/// The digests of each STM element of a list.
-fn stm_digests(list: &List) -> impl Iterator<Item = &Digests> {
-    list.elements.iter().filter_map(|element| match &element.body {
-        Body::Stm(digests) => Some(digests),
-        _ => None,
-    })
+fn is_stm(element: &Element) -> bool {
+    matches!(element.body, Body::Stm(_))
 }
 
-/// Whether one of these is the digest, by SHA-256.
-fn names(digests: &Digests, file: &[u8], digest: &[u8; 32]) -> bool {
-    digests.hash_alg == SHA256 && digests.places.iter().any(|range| part(file, range) == digest)
+/// Whether an element names by SHA-256.
+fn by_sha256(element: &Element) -> bool {
+    element.digests().map_or(false, |digests| digests.hash_alg == SHA256)
+}
+
+/// Whether one of an element's digests is this one, by SHA-256.
+fn names(element: &Element, file: &[u8], digest: &[u8; 32]) -> bool {
+    let mut digests = (0..).map_while(|k| policy::digest(element, k));
+    by_sha256(element) && digests.any(|range| file.get(range) == Some(&digest[..]))
 }
 
 /// How many digests are named instead of one that is not.
-fn others<'a>(all: impl Iterator<Item = &'a Digests>) -> String {
-    let (ours, theirs): (Vec<&Digests>, Vec<&Digests>) = all.partition(|digests| digests.hash_alg == SHA256);
-    let count = |some: &[&Digests]| some.iter().map(|digests| digests.places.len()).sum::<usize>();
+fn others<'a>(all: impl Iterator<Item = &'a Element>) -> String {
+    let (ours, theirs): (Vec<&Element>, Vec<&Element>) = all.partition(|element| by_sha256(element));
+    let count = |some: &[&Element]| {
+        some.iter().filter_map(|element| element.digests()).map(|digests| u64::from(digests.count)).sum::<u64>()
+    };
     format!("{} other by SHA-256 and {} by other algorithms", count(&ours), count(&theirs))
 }
 
@@ -259,23 +259,24 @@ fn too_new(named: &[Launch], version: u64) -> Option<String> {
     if named.iter().any(|launch| launch.sinit_min_version <= version) {
         return None;
     }
-    let Launch { number, element, sinit_min_version, .. } = named.first()?;
+    let Launch { number, element, sinit_min_version } = named.first()?;
     Some(format!(
         "element {number} (file offset {:#x}) names the digest, but its SINITMinVersion {sinit_min_version} is above AcmVersion {version}",
-        element.at
+        element.bytes.start
     ))
 }
 
 /// Where a list holds STM elements and none names the STM image, what they name.
-fn other_stm(list: &List, file: &[u8], stm: &mut Stm) -> Option<String> {
-    stm_digests(list).next()?;
+fn other_stm(elements: &[Element], file: &[u8], stm: &mut Stm) -> Option<String> {
+    let of_stm = || elements.iter().filter(|element| is_stm(element));
+    of_stm().next()?;
     let digest = stm.digest();
-    if stm_digests(list).any(|digests| names(digests, file, &digest)) {
+    if of_stm().any(|element| names(element, file, &digest)) {
         return None;
     }
     Some(format!(
         "it names the digest, but its STM elements (type 0x14) do not name the STM image, whose digest is {}; they name {}",
         digits(&digest),
-        others(stm_digests(list))
+        others(of_stm())
     ))
 }

@@ -1,6 +1,6 @@
 //! Rules 6 to 11: the SINIT module's place, header, GDT, information table and chipset list.
 
-use super::{bytes_of, fail, field, heap, need, number, on_a_page, spaced, Finding, Length, Step};
+use super::{bytes_of, fail, field, heap, need, noted, number, on_a_page, spaced, Length, Step};
 use crate::text::bytes;
 use crate::{Platform, MOST_CHIPSETS, MOST_MODULE, PAGE_SIZE};
 
@@ -182,16 +182,16 @@ fn chipset(sinit: &[u8], table: u64, platform: &Platform) -> Step<()> {
         }
         notes.push(entry.shown(index, at));
     }
-    Err(Finding {
-        number: 10,
-        place: format!("chipset list (module offset {list:#x})"),
-        expected: format!(
+    noted(
+        10,
+        format!("chipset list (module offset {list:#x})"),
+        format!(
             "an entry for vendor {:#06x} device {:#06x} revision {:#06x}, the platform's",
             platform.vendor, platform.device, platform.revision
         ),
-        found: format!("{count} in the list, and no match"),
+        format!("{count} in the list, and no match"),
         notes,
-    })
+    )
 }
 
 /// Rule 11.

@@ -1,7 +1,7 @@
 //! Rules 14 to 20: the walk through the page tables, level by level.
 
 use super::heap::{OsSinitData, Range};
-use super::{field, need, on_a_page, Finding, Step};
+use super::{field, need, noted, on_a_page, Step};
 use crate::{Parts, Platform, MOST_TABLES, PAGE_SIZE};
 use std::fmt;
 
@@ -214,13 +214,13 @@ impl Walk<'_> {
         if !common.is_empty() {
             return Ok(common);
         }
-        Err(Finding {
-            number: 20,
-            place: place(),
-            expected: self.common_regions(first.is_some()),
-            found: format!("page {}", shown(&page)),
-            notes: first.map_or(Vec::new(), |first| self.other_regions(&page, &page_at(first.address))),
-        })
+        noted(
+            20,
+            place(),
+            self.common_regions(first.is_some()),
+            format!("page {}", shown(&page)),
+            first.map_or(Vec::new(), |first| self.other_regions(&page, &page_at(first.address))),
+        )
     }
 
     /// The regions of which one must hold a page, and for a later page why it is these.

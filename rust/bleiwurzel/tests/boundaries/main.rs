@@ -12,6 +12,7 @@ mod limits;
 mod lists;
 mod module;
 mod order;
+mod places;
 mod protection;
 mod record;
 mod stm;

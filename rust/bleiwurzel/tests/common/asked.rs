@@ -1,18 +1,31 @@
 //! The check, and all that holds of an answer beside its number.
 
-use super::Image;
-use bleiwurzel::{answer, finding, Answer};
+use super::{place, policy_bytes, Image};
+use bleiwurzel::{answer, finding, Answer, Parts, Platform};
 use plain_sha256::digest_in_parts;
 
 /// A value that no page address has, to see which places of a page list are written.
 pub const UNTOUCHED: u64 = 0xdead_beef_dead_beef;
 
-/// The answer, after looking at the page list, the digest and what the rules written a second time in Rust say.
+/// Holds the grammar of the policy file to what is worked out of it by itself, where the answer rests on it: 27 where there is a fault, at its
+/// place, and no other number. All other numbers have place 0. What is no capture has no parts.
+pub fn hold_place(name: &str, given: &Answer, seen: Option<(Parts, Platform)>) {
+    let by_a_list = given.number == 0 && given.list != 255;
+    let fault = match seen {
+        Some((parts, platform)) if by_a_list || (27..=29).contains(&given.number) => place(policy_bytes(&parts, &platform)),
+        _ => None,
+    };
+    assert_eq!((given.number == 27).then_some(given.place), fault, "{name}: the place of {given:?}");
+    assert!(given.number == 27 || given.place == 0, "{name}: {given:?}");
+}
+
+/// The answer, after looking at the page list, the digest, the place and what the rules written a second time in Rust say.
 pub fn asked(name: &str, image: &Image) -> Answer {
     let mut pages = vec![UNTOUCHED; image.places];
     let given = answer(&image.parts(), &image.platform, &mut pages);
     let found = finding::first(&image.parts(), &image.platform, image.places);
     assert_eq!(found.map_or(0, |finding| finding.number), given.number, "{name}: the finding's number");
+    hold_place(name, &given, Some((image.parts(), image.platform)));
     let listed: &[u64] = if given.number == 0 { &image.listed } else { &[] };
     for (k, place) in pages.iter().enumerate() {
         assert_eq!(*place, listed.get(k).copied().unwrap_or(UNTOUCHED), "{name}: place {k} of {}", image.places);
@@ -27,6 +40,9 @@ pub fn asked(name: &str, image: &Image) -> Answer {
 
 /// What the capture program prints for an answer.
 pub fn printed(answer: &Answer, pages: &[u64]) -> String {
+    if answer.number == 27 {
+        return format!("refused 27 at {}\n", answer.place);
+    }
     if answer.number != 0 {
         return format!("refused {}\n", answer.number);
     }

@@ -3,11 +3,13 @@
 
 mod asked;
 mod image;
+mod place;
 mod policy_file;
 mod signed_list;
 
 pub use asked::*;
 pub use image::*;
+pub use place::*;
 pub use policy_file::*;
 pub use signed_list::*;
 use std::collections::HashMap;
@@ -29,6 +31,17 @@ pub fn captures() -> Vec<(String, Vec<u8>)> {
         .collect();
     captures.sort();
     captures
+}
+
+/// The stored policy files by name, in order.
+pub fn policy_files() -> Vec<(String, Vec<u8>)> {
+    let folder = top().join("crates/policy_show/data");
+    let entries = std::fs::read_dir(folder).expect("the stored policy files").map(|entry| entry.expect("an entry of the folder"));
+    let mut files: Vec<(String, Vec<u8>)> = entries
+        .map(|entry| (entry.file_name().to_string_lossy().into_owned(), std::fs::read(entry.path()).expect("a policy file")))
+        .collect();
+    files.sort();
+    files
 }
 
 /// A table of outputs: a name, a tab, and the whole output with `\n` for each line's end.

@@ -1,6 +1,7 @@
 //! Policy files: elements, lists, the file with its PolicyHash, and an image under a LIST policy.
 
 use super::{put, Image, POLICY_BASE, POLICY_SIZE};
+use bleiwurzel::{Parts, Platform};
 use plain_sha256::digest_in_parts;
 
 /// A policy element.
@@ -79,6 +80,15 @@ pub fn policy_file(lists: &[Vec<u8>]) -> (Vec<u8>, [u8; 32]) {
     file.push(lists.len() as u8);
     lists.iter().for_each(|list| file.extend_from_slice(list));
     (file, policy_hash(lists))
+}
+
+/// The policy file that OsSinitData names, where rules 2 and 26 hold. OsSinitData is the heap's third part.
+pub fn policy_bytes<'a>(parts: &Parts<'a>, platform: &Platform) -> &'a [u8] {
+    let number = |at: usize| parts.heap[at..at + 8].iter().rev().fold(0, |number, byte| number << 8 | u64::from(*byte));
+    let second = number(0) as usize;
+    let os_sinit_data = second + number(second) as usize + 8;
+    let at = (number(os_sinit_data + 64) - platform.window_base) as usize;
+    &parts.window[at..at + number(os_sinit_data + 72) as usize]
 }
 
 /// The same image under a LIST policy with this file, which stands behind the window's last byte.

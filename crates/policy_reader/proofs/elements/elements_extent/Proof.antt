@@ -15,15 +15,6 @@ abbrev μ-loop : tie.MeasureT-loop
 loop-holds : tie.Need-loop-holds Inv-loop μ-loop
 loop-holds c = (search needs, search (needs, elements-start))
 
-sub-element-extent : tie.Need-sub-element-extent Inv-loop μ-loop
-sub-element-extent c = search needs
-
-part-element-extent-start : tie.Need-part-element-extent-start Inv-loop μ-loop
-part-element-extent-start c = search needs
-
-part-element-extent-end : tie.Need-part-element-extent-end Inv-loop μ-loop
-part-element-extent-end c = search needs
-
 element-extent-requires : tie.Need-element-extent-requires Inv-loop μ-loop
 element-extent-requires c κs = search needs
 
@@ -42,8 +33,8 @@ loop-again c = (search (needs, size-within), search (needs, elements-on))
 enum-known-p : tie.Need-enum-known-p Inv-loop μ-loop
 enum-known-p c = search needs
 
-add-t11 : tie.Need-add-t11 Inv-loop μ-loop
-add-t11 c = record { fits = search (needs, fault-ends) }
+add-t8 : tie.Need-add-t8 Inv-loop μ-loop
+add-t8 c = record { fits = search (needs, fault-ends) }
 
 returns : tie.Need-returns Inv-loop μ-loop
 returns c = search (needs, elements-stop)
@@ -58,15 +49,12 @@ elements-extent-spec =
     Inv-loop
     μ-loop
     loop-holds
-    sub-element-extent
-    part-element-extent-start
-    part-element-extent-end
     element-extent-requires
     enum-known-size
     add-at
     loop-less
     loop-again
     enum-known-p
-    add-t11
+    add-t8
     returns
     returns-2)

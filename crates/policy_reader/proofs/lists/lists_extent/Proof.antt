@@ -15,15 +15,6 @@ abbrev μ-loop : tie.MeasureT-loop
 loop-holds : tie.Need-loop-holds Inv-loop μ-loop
 loop-holds c = (search needs, search needs, search (needs, lists-start))
 
-sub-list-extent : tie.Need-sub-list-extent Inv-loop μ-loop
-sub-list-extent c = search needs
-
-part-list-extent-start : tie.Need-part-list-extent-start Inv-loop μ-loop
-part-list-extent-start c = search needs
-
-part-list-extent-end : tie.Need-part-list-extent-end Inv-loop μ-loop
-part-list-extent-end c = search needs
-
 list-extent-requires : tie.Need-list-extent-requires Inv-loop μ-loop
 list-extent-requires c κs = search needs
 
@@ -36,8 +27,8 @@ add-at c = record { fits = search (needs, size-ends) }
 enum-known-p : tie.Need-enum-known-p Inv-loop μ-loop
 enum-known-p c = search needs
 
-add-t13 : tie.Need-add-t13 Inv-loop μ-loop
-add-t13 c = record { fits = search (needs, fault-ends) }
+add-t9 : tie.Need-add-t9 Inv-loop μ-loop
+add-t9 c = record { fits = search (needs, fault-ends) }
 
 returns : tie.Need-returns Inv-loop μ-loop
 returns c = search (needs, lists-stop)
@@ -64,14 +55,11 @@ lists-extent-spec =
     Inv-loop
     μ-loop
     loop-holds
-    sub-list-extent
-    part-list-extent-start
-    part-list-extent-end
     list-extent-requires
     enum-known-size
     add-at
     enum-known-p
-    add-t13
+    add-t9
     returns
     add-k
     loop-less

@@ -59,10 +59,11 @@ atText = 0x20 ∷ 0x61 ∷ 0x74 ∷ 0x20 ∷ []
 abbrev pub permittedLine : Answer → List ℕ
 permittedLine a = permittedText ++ decimal (a .pages) ++ listText ++ decimal (a .list) ++ (LF ∷ [])
 
--- "The program prints a 27 as `refused 27 at 36`.": the number of a policy file that is not of the grammar is shown with its place, also where that is 0
+-- the number of a policy file that is not of the grammar
 abbrev pub notOfGrammar : ℕ
 notOfGrammar = 27
 
+-- "The program prints a 27 as `refused 27 at 36`.": its place, also where that is 0; no other number has one
 abbrev pub placeShown : Answer → List ℕ
 placeShown a = cond (eqb (a .number) notOfGrammar) (atText ++ decimal (a .place)) []
 

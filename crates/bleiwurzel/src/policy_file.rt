@@ -8,8 +8,8 @@ use policy_answers::ListAnswer;
 use policy_answers::STM_TYPE;
 ghost use mathlib.Core.Path.{_≡_};
 ghost use mathlib.Core.List.{[], _∷_};
-ghost use Rattle.policy_grammar.specs.Decode.{accepted, faultPlace};
-ghost use Rattle.policy_answers.specs.Answers.{fileShown, listAnswer, elementAnswer};
+ghost use Rattle.policy_grammar.specs.Decode.{accepted};
+ghost use Rattle.policy_answers.specs.Answers.{fileAnswer, listAnswer, elementAnswer};
 ghost use Rattle.policy_answers.specs.Seen.{numberOf, countOf, placeOf};
 ghost use Rattle.bleiwurzel.specs.Policy.{listKind, listFields, elementKind, elementFields, ListNumbersAt, ElementNumbersAt};
 
@@ -17,9 +17,9 @@ ghost use Rattle.bleiwurzel.specs.Policy.{listKind, listFields, elementK
 // fault, else 0.
 #[no_mangle]
 pub extern "C" fn bleiwurzel_policy(file: &[u8], lists: &mut [u64; 1], place: &mut [u64; 1]) -> u32
-    ensures number { λ r. ⌜ r ≡ numberOf (fileShown (now (file .entry)) (accepted (now (file .entry))) (faultPlace (now (file .entry)))) ⌝ }
-    ensures lists { λ _. ⌜ now (lists .exit) ≡ countOf (fileShown (now (file .entry)) (accepted (now (file .entry))) (faultPlace (now (file .entry)))) ∷ [] ⌝ }
-    ensures place { λ _. ⌜ now (place .exit) ≡ placeOf (fileShown (now (file .entry)) (accepted (now (file .entry))) (faultPlace (now (file .entry)))) ∷ [] ⌝ }
+    ensures number { λ r. ⌜ r ≡ numberOf (fileAnswer (now (file .entry))) ⌝ }
+    ensures lists { λ _. ⌜ now (lists .exit) ≡ countOf (fileAnswer (now (file .entry))) ∷ [] ⌝ }
+    ensures place { λ _. ⌜ now (place .exit) ≡ placeOf (fileAnswer (now (file .entry))) ∷ [] ⌝ }
 {
     match policy_reader::read(file) {
         FileAnswer::Accepted { lists: n } => {

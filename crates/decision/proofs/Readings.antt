@@ -2,7 +2,6 @@
 -- is not of the grammar.
 use Prim.Native.Nat.{ℕ, _≤_}
 use mathlib.Core.Path.{_≡_, refl, ap, sym}
-use mathlib.Core.Logic.{_↔_}
 use mathlib.Core.Bool.{true, false, true≢false}
 use mathlib.Core.List.{List}
 use mathlib.Core.Option.{Option, some, none}
@@ -11,8 +10,7 @@ use lib.ListN.{length}
 use Rattle.field.specs.Number.{Bytes}
 use Rattle.policy_grammar.specs.Grammar.{Reading}
 use Rattle.policy_grammar.specs.Decode.{accepted, faultPlace}
-use Rattle.policy_grammar.specs.Layout.{whole}
-use Rattle.policy_grammar.specs.Fault.{FirstFault}
+use Rattle.policy_grammar.specs.Fault.{FirstFaultIn}
 use Rattle.policy_grammar.specs.Sizes.{leastFile, largestFile}
 use Rattle.policy_reader.proofs.Places.{accepted-sound, accepted-complete}
 use Rattle.policy_reader.proofs.Readings.{is-place}
@@ -32,7 +30,7 @@ pub lists-exactly : ListsExactly
 lists-exactly file r reads = rw (accepted-complete r file (reads .makes) (reads .most))
 
 -- the place of a file that is not of the grammar, of a size that is read, is that of its first fault
-pub first-fault : (s : List ℕ) → leastFile ≤ length s → length s ≤ largestFile → ofGrammar s ≡ false → FirstFault (whole (length s)) s (faultPlace s)
+pub first-fault : (s : List ℕ) → leastFile ≤ length s → length s ≤ largestFile → ofGrammar s ≡ false → FirstFaultIn s (faultPlace s)
 unfolding ofGrammar
 first-fault s least most h = is-place s .first least most (go (accepted s) h)
   where

@@ -16,7 +16,7 @@ use Rattle.policy_grammar.specs.Grammar.{All, listBytes, ValidList, Reading}
 use Rattle.policy_grammar.specs.Parser.{valueOf}
 use Rattle.policy_grammar.specs.Decode.{reading, accepted, faultPlace}
 use Rattle.policy_grammar.specs.Sizes.{sized}
-use Rattle.policy_answers.specs.Answers.{fileShown}
+use Rattle.policy_answers.specs.Answers.{fileShown, fileAnswer}
 use Rattle.policy_answers.specs.Seen.{placeOf}
 use Rattle.policy_reader.proofs.Readings.{fault-outside}
 use Rattle.policy_reader.proofs.Walk.{walk-start}
@@ -27,7 +27,7 @@ isAccepted (Accepted n) = true
 isAccepted WrongSize = false
 isAccepted (NotOfGrammar p) = false
 
-module _ (s : List ℕ) (f v : FileAnswer) (e : f ≡ fileShown s (accepted s) (faultPlace s)) (q : f ≡ v) where
+module _ (s : List ℕ) (f v : FileAnswer) (e : f ≡ fileAnswer s) (q : f ≡ v) where
   pub grammar-is : ofGrammar s ≡ isAccepted v
   unfolding ofGrammar
   grammar-is = sym (ap isAccepted (sym q ∙ e) ∙ go (accepted s))

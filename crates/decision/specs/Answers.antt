@@ -21,7 +21,8 @@ criteriaOf k stm r = criteriaBy (k .digest) (k .«acm_version») stm r
 abbrev pub fileRules : List ℕ → List ℕ → List Rule
 fileRules file r = rule 27 (ofGrammar file) ∷ rule 28 (hashMatches file r) ∷ []
 
--- "27 must carry the offset of the first field, in file order, whose rule fails or that does not fit"; "the place, 0 for all other numbers"
+-- "27 must carry the offset of the first field, in file order, whose rule fails or that does not fit"; "the place, 0 for all other numbers". It is 0 too for a
+-- file of a size that is not read, of which 27 is not asked
 abbrev pub placeFor : List ℕ → ℕ → ℕ
 placeFor file n = cond (eqb n 27) (faultPlace file) 0
 

@@ -17,7 +17,8 @@ pub struct LaunchCriteria {
     pub acm_version: u64,
 }
 
-// The number of the first of rules 27 and 28 that fails for a file, 0 where both hold, and on 27 the offset of the first field at fault, else 0.
+// The number of the first of rules 27 and 28 that fails for a file, 0 where both hold, and on 27 the offset of the first field at fault, else 0. A file of a
+// size that is not read, which 26 keeps away, is 27 at 0.
 pub struct FileFault {
     pub number: u32,
     pub place: u32,

@@ -4,7 +4,6 @@ use Prim.Native.Nat.{ℕ, _≤_, _<_}
 use mathlib.Core.Path.{_≡_, refl, sym, _∙_, ap}
 use mathlib.Core.Logic.{_↔_, _≢_}
 use mathlib.Core.List.{List}
-use lib.ListN.{length}
 use native.Mathlib.Omega.{arith}
 use borrow.Author.Tests.{ne-eqb}
 use Rattle.field.specs.Number.{Bytes}
@@ -15,8 +14,7 @@ use Rattle.rules.proofs.Answers.{for-zero, for-other, number-of}
 use Rattle.mle.specs.Image.{pageList}
 use Rattle.answer.specs.declared.Answer.{Answer}
 use Rattle.policy_grammar.specs.Decode.{faultPlace}
-use Rattle.policy_grammar.specs.Layout.{whole}
-use Rattle.policy_grammar.specs.Fault.{FirstFault}
+use Rattle.policy_grammar.specs.Fault.{FirstFaultIn}
 use Rattle.decision.specs.Answers.{placeFor}
 use Rattle.decision.proofs.Readings.{first-fault}
 use Rattle.launch.specs.Rules.{Input, image, found, rules}
@@ -25,7 +23,7 @@ use Rattle.launch.specs.Meaning.{file, meanings}
 use Rattle.launch.specs.Demand1.{Refusal, Demand1}
 use Rattle.launch.proofs.Order.{all-group}
 use Rattle.launch.proofs.Meaning.{first-broken}
-use Rattle.launch.proofs.Last.{not-read}
+use Rattle.launch.proofs.Last.{not-of-grammar}
 
 module _ (i : Input) where
   abbrev number : ℕ
@@ -69,10 +67,10 @@ module _ (i : Input) where
   most = rw number-is (number-most 1 29 (rules i) (all-group i .numbers))
 
   -- on 27 the place is that of the first fault in the policy file
-  fault : answerOf i .number ≡ 27 → FirstFault (whole (length (file i))) (file i) (answerOf i .place)
+  fault : answerOf i .number ≡ 27 → FirstFaultIn (file i) (answerOf i .place)
   fault e =
       let n : number ≡ 27 = sym number-is ∙ e in
-      let u = not-read i n in
+      let u = not-of-grammar i n in
       let p : answerOf i .place ≡ faultPlace (file i) =
       ap (λ (a : Answer). a .place) (answer-refused (λ z. omega (arith, n))) ∙ ap (placeFor (file i)) n in
       rw p (first-fault (file i) (u .least) (u .most) (u .refused))

@@ -54,13 +54,13 @@ module _ (i : Input) where
       by false q f = absurd (omega arith)
 
   -- 27
-  pub record NotRead : Type 0 where
+  pub record NotOfGrammar : Type 0 where
     pub least : leastFile ≤ length (file i)
     pub most : length (file i) ≤ largestFile
     pub refused : ofGrammar (file i) ≡ false
 
-  pub not-read : firstFailing (rules i) ≡ 27 → NotRead
-  not-read e =
+  pub not-of-grammar : firstFailing (rules i) ≡ 27 → NotOfGrammar
+  not-of-grammar e =
       let placed = all (filePlaced (i .window) (i .platform .«window_base») (os i .«policy_file_base») (os i .«policy_file_size»)) in
       let k = criteria (i .window) r (i .stm) (found i) in
       let f = second placed (ofGrammar (file i)) (hashMatches (file i) r) (somePermits (file i) k) (from-lists 27 (lit< tt) e .1) in

@@ -4,12 +4,11 @@ use Prim.Native.Nat.{ℕ, _≤_, _<_}
 use mathlib.Core.Path.{_≡_}
 use mathlib.Core.Logic.{_↔_, _≢_, _⊎_}
 use mathlib.Core.List.{List, [], _∷_}
-use lib.ListN.{length, replicate}
+use lib.ListN.{replicate}
 use Rattle.field.specs.Number.{Bytes}
 use Rattle.rules.specs.Rules.{Rule, Every, FirstFails}
 use Rattle.rules.specs.Meaning.{FirstBroken}
-use Rattle.policy_grammar.specs.Layout.{whole}
-use Rattle.policy_grammar.specs.Fault.{FirstFault}
+use Rattle.policy_grammar.specs.Fault.{FirstFaultIn}
 use Rattle.answer.specs.Answer.{noList}
 use Rattle.launch.specs.Rules.{Input, rules}
 use Rattle.launch.specs.Answer.{answerOf, placesOf}
@@ -22,7 +21,7 @@ pub record Refusal (i : Input) (places : List ℕ) : Type 0 where
   pub pages : answerOf i .pages ≡ 0
   pub list : answerOf i .list ≡ noList
   -- "27 must carry the offset of the first field, in file order, whose rule fails or that does not fit"; "the place, 0 for all other numbers"
-  pub fault : answerOf i .number ≡ 27 → FirstFault (whole (length (file i))) (file i) (answerOf i .place)
+  pub fault : answerOf i .number ≡ 27 → FirstFaultIn (file i) (answerOf i .place)
   pub place : answerOf i .number ≢ 27 → answerOf i .place ≡ 0
   pub digest : answerOf i .digest ≡ replicate 32 0
   pub kept : placesOf i places ≡ places

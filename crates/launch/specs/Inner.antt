@@ -10,13 +10,12 @@ use Rattle.pages.specs.declared.Memory.{Memory}
 use Rattle.mle.specs.declared.Image.{Image}
 use Rattle.mle.specs.Image.{imageDigest}
 use Rattle.decision.specs.Lists.{somePermits, lowestPermitting}
-use Rattle.decision.specs.Answers.{placeFor}
 use Rattle.launch.specs.declared.Found.{Found}
 use Rattle.launch.specs.declared.FindAnswer.{FindAnswer}
 use Rattle.launch.specs.declared.FindAnswer.the-variants.{Complete, Refused}
 use Rattle.launch.specs.declared.Outcome.{Outcome}
 use Rattle.launch.specs.Rules.{Input, imageRules, pageRules, imageFound, foundOf, found, findRules, policyFile, criteria, listRules, decideRules, rules}
-use Rattle.launch.specs.Answer.{listFor, shown}
+use Rattle.launch.specs.Answer.{listFor, refusedAt, shown}
 
 -- WHAT THE LAUNCH FINDS
 
@@ -45,7 +44,7 @@ abbrev pub earlyRefusal : ℕ → ℕ → Outcome
 earlyRefusal n p = refusalShowing (replicate 32 0) n p
 
 abbrev pub refusal : List ℕ → Found → ℕ → Outcome
-refusal window f n = refusalShowing (shown (imageDigest window (f .image)) n) n (placeFor (policyFile window f) n)
+refusal window f n = record { answer = refusedAt window f n; image = noImage; measurement = shown (imageDigest window (f .image)) n }
 
 abbrev pub permissionWith : Found → ℕ → List ℕ → Outcome
 permissionWith f list digest =

@@ -75,11 +75,11 @@ fn by_file(window: &[u8], file: &[u8], record: &[u8], stm: &[u8], f: Found) -> O
 fn by_lists(window: &[u8], record: &[u8], stm: &[u8], f: Found) -> Outcome
     ensures { λ r. ⌜ r ≡ spec.listStage (now (window .entry)) (now («record» .entry)) (now (stm .entry)) f ⌝ }
 {
-    let place = f.policy_file;
-    if !decision::file_placed(window, f.window_base, place.base, place.size) {
+    let range = f.policy_file;
+    if !decision::file_placed(window, f.window_base, range.base, range.size) {
         return refusal(26, 0);
     }
-    let file = decision::file(window, f.window_base, place.base, place.size);
+    let file = decision::file(window, f.window_base, range.base, range.size);
     let fault = decision::file_fault(file, record);
     if fault.number != 0 {
         return refusal(fault.number, fault.place);

@@ -14,7 +14,7 @@ use Rattle.policy_grammar.specs.Grammar.{All, Element, elementBytes, ValidEleme
 use Rattle.policy_grammar.specs.Grammar as Grammar
 use Rattle.policy_grammar.specs.Decode.{accepted, faultPlace}
 use Rattle.policy_grammar.specs.Sizes.{sized}
-use Rattle.policy_answers.specs.Answers.{fileShown, listShown, signingShown, elementsOf, listsIn, place, listAnswer, elementIn, elementAnswer}
+use Rattle.policy_answers.specs.Answers.{fileAnswer, listShown, signingShown, elementsOf, listsIn, place, listAnswer, elementIn, elementAnswer}
 use Rattle.policy_answers.specs.declared.FileAnswer.{FileAnswer}
 use Rattle.policy_answers.specs.declared.FileAnswer.the-variants as files
 use Rattle.policy_answers.specs.declared.ListAnswer.{ListAnswer}
@@ -27,7 +27,7 @@ use Rattle.policy_answers.proofs.Slices.{drop-take}
 use Rattle.policy_reader.proofs.Places.{accepted-sound, lists-stand, list-at, elements-part, elements-fit}
 
 -- a list
-module _ (s : List ℕ) (b : (i : ℕ) → Fits w8 (getD s i 0)) (f : FileAnswer) (e : f ≡ fileShown s (accepted s) (faultPlace s)) where
+module _ (s : List ℕ) (b : (i : ℕ) → Fits w8 (getD s i 0)) (f : FileAnswer) (e : f ≡ fileAnswer s) where
   refused : ((n : ℕ) → f ≡ files.Accepted n → ⊥) → (i : ℕ) → lists.Absent ≡ listAnswer (accepted s) i
   refused h i = go (accepted s) refl
     where

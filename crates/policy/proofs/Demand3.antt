@@ -11,7 +11,7 @@ use Rattle.policy_answers.specs.declared.FileAnswer.the-variants.{WrongSize, No
 use Rattle.policy_grammar.specs.Grammar.{bodyBytes, listBytes, Element, PolicyList, Reading, Makes}
 use Rattle.policy_grammar.specs.Decode.{accepted, faultPlace}
 use Rattle.policy_grammar.specs.Sizes.{sized}
-use Rattle.policy_answers.specs.Answers.{fileShown, elementIn, place, listAnswer, keyAnswer, signatureAnswer, elementAnswer}
+use Rattle.policy_answers.specs.Answers.{fileAnswer, elementIn, place, listAnswer, keyAnswer, signatureAnswer, elementAnswer}
 use Rattle.policy_answers.specs.Seen.{numberOf, countOf, placeOf, seenElement, seenBody}
 use Rattle.policy.specs.Demand3.{Demand3, Answered, Shows, answersOf}
 use Rattle.policy_reader.proofs.Places.{accepted-sound, list-at, element-at}
@@ -28,7 +28,7 @@ module _ (s : List ℕ) (p : ℕ) (outside : sized s ≡ false → p ≡ 0) wher
   shows-none : (i j : ℕ) → Shows s none p i j (answersOf s none p i j)
   shows-none i j =
       let (n, c, at) = refused-number (sized s) refl in
-      record { number = n; count = c; place = at; list = refl; key = refl; signature = refl; element = refl; body = refl; places = refl }
+      record { number = n; count = c; fault = at; list = refl; key = refl; signature = refl; element = refl; body = refl; places = refl }
 
 -- the parts of a list that is there or not
 module _ (r : Reading) (s : List ℕ) (m : Makes r s) (p : ℕ) (unplaced : p ≡ 0) (i j : ℕ) where
@@ -44,13 +44,13 @@ module _ (r : Reading) (s : List ℕ) (m : Makes r s) (p : ℕ) (unplaced : p �
 
   shows-some : (o : Option PolicyList) → getElem? (r .lists) i ≡ o → Shows s (some r) p i j (answersOf s (some r) p i j)
   shows-some none q =
-      record { number = refl; count = sym (m .valid .counted); place = sym unplaced; list = rw q; key = rw q; signature = rw q; element = rw q; body = rw q; places = refl }
+      record { number = refl; count = sym (m .valid .counted); fault = sym unplaced; list = rw q; key = rw q; signature = rw q; element = rw q; body = rw q; places = refl }
   shows-some (some l) q =
       let here = list-at r s m i l q in
       record {
         number = refl;
         count = sym (m .valid .counted);
-        place = sym unplaced;
+        fault = sym unplaced;
         list = rw q (list-seen s at l here);
         key = rw q (key-seen s at l here);
         signature = rw q (signature-seen s at l here);
@@ -70,7 +70,7 @@ pub demand3 : Demand3
 demand3 s b = (accepted s, faultPlace s, is-reading s b, is-place s, shows s b)
 
 -- the answers of one call, each as its own contract has it
-pub answered : (s : List ℕ) → Bytes s → (i j : ℕ) (a : Answers) → a .file ≡ fileShown s (accepted s) (faultPlace s) → a .list ≡ listAnswer (accepted s) i → a .key ≡ keyAnswer (accepted s) i
+pub answered : (s : List ℕ) → Bytes s → (i j : ℕ) (a : Answers) → a .file ≡ fileAnswer s → a .list ≡ listAnswer (accepted s) i → a .key ≡ keyAnswer (accepted s) i
     → a .signature ≡ signatureAnswer (accepted s) i → a .element ≡ elementAnswer (accepted s) i j → Answered s i j a
 answered s b i j a e₁ e₂ e₃ e₄ e₅ =
     let (o, p, is, at, q) = demand3 s b in

@@ -1,6 +1,7 @@
 -- Demand 3, as one statement about a string and every number asked: `Demand3`, which proofs/Demand3.antt proves as `demand3`.
 -- Each answer is looked at through the string; what is then seen is that part of the one reading from which the grammar makes the string,
--- and nothing exactly where that reading has no such part, as for every string that is refused.
+-- and nothing exactly where that reading has no such part, as for every string that is refused. The place of a string is that of its first fault where it is
+-- refused with 27, and else 0.
 use Prim.Native.Nat.{ℕ}
 use mathlib.Core.Path.{_≡_}
 use mathlib.Core.Bool.{cond}
@@ -36,7 +37,7 @@ answersOf s o p i j =
 pub record Shows (s : List ℕ) (o : Option Reading) (p i j : ℕ) (a : Answers) : Type 0 where
   pub number : numberOf (a .file) ≡ numberFor s o
   pub count : countOf (a .file) ≡ length (listsIn o)
-  pub place : placeOf (a .file) ≡ p
+  pub fault : placeOf (a .file) ≡ p
   pub list : seenList s (a .list) ≡ Option·map listPart (getElem? (listsIn o) i)
   pub key : seenPart s (a .key) ≡ Option·map (λ (g : Signature). g .key) (signatureIn (getElem? (listsIn o) i))
   pub signature : seenPart s (a .signature) ≡ Option·map (λ (g : Signature). g .signature) (signatureIn (getElem? (listsIn o) i))

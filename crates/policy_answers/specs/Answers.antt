@@ -16,12 +16,17 @@ use Rattle.policy_answers.specs.declared.ElementAnswer.the-variants.{Lau
 use Rattle.policy_grammar.specs.Grammar.{Body, customType, Element, elementBytes, Signing, PolicyList, listBytes, Reading}
 use Rattle.policy_grammar.specs.Grammar as Grammar
 use Rattle.policy_grammar.specs.Sizes.{firstList, sized}
+use Rattle.policy_grammar.specs.Decode.{accepted, faultPlace}
 
 -- a string, by its reading and the place of its first fault: 26 where its size is wrong, 27 at that place where it is not of the grammar, and else 0
 -- with the list count
 abbrev pub fileShown : List ℕ → Option Reading → ℕ → FileAnswer
 fileShown s none p = cond (sized s) (NotOfGrammar p) WrongSize
 fileShown s (some r) p = Accepted (r .listCount)
+
+-- what the reader answers of a string
+abbrev pub fileAnswer : List ℕ → FileAnswer
+fileAnswer s = fileShown s (accepted s) (faultPlace s)
 
 -- a list that starts at an offset, by its version, its elements size and what signs it: the elements stand 8 bytes on, and the key 4 bytes after them
 abbrev pub signingShown : ℕ → ℕ → ℕ → Signing → ListAnswer

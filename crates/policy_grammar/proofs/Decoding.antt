@@ -20,7 +20,7 @@ use Rattle.policy_grammar.specs.Layout as Layout
 use Rattle.policy_grammar.specs.Parser.{Read, value, fault}
 use Rattle.policy_grammar.specs.Layout.{whole}
 use Rattle.policy_grammar.specs.Decode.{reading}
-use Rattle.policy_grammar.specs.Fault.{Stands, FirstFault, MadeExactly, SomePlace}
+use Rattle.policy_grammar.specs.Fault.{Stands, FirstFaultIn, MadeExactly, SomePlace}
 use Rattle.policy_grammar.proofs.Formats.{value-fault, then-stands, read-stands, stands-read}
 use Rattle.policy_grammar.proofs.Faults.{fault-exactly}
 use Rattle.policy_grammar.proofs.Soundness.{Sound, Made, Complete, bytes-left, then-sound, done-sound, done-complete, number-sound, number-complete, string-sound, string-complete, rest-sound, rest-complete, inside-sound, inside-complete, inside-left, times-sound, times-complete, many-sound, many-complete}
@@ -309,7 +309,7 @@ some-place s b = (
   λ h. go h (reading s) refl,
 )
   where
-    go : ((r : Reading) → Makes r s → ⊥) → (g : Read Reading) → reading s ≡ g → (p : ℕ) × FirstFault (whole (length s)) s p
+    go : ((r : Reading) → Makes r s → ⊥) → (g : Read Reading) → reading s ≡ g → (p : ℕ) × FirstFaultIn s p
     go h (value r n) e = absurd (h r (reading-sound s r n b e))
     go h (fault p) e = (p, fault-exactly s p .0 e)
 

@@ -3,7 +3,7 @@ use Prim.Native.Nat.{ℕ, _+_, _-_, _≤_}
 use native.Mathlib.Omega.{arith}
 use mathlib.Core.Path.{_≡_, refl, ap, sym, _∙_, subst}
 use mathlib.Core.Bool.{Bool, true, false, cond, _&&_, and-eq-true-iff}
-use mathlib.Core.List.{List, [], _++_}
+use mathlib.Core.List.{List, [], _∷_, _++_}
 use lib.ListN.{length, take, drop, length-append, length-drop, length-take, take-append-drop}
 use lib.Seq.{take-at, drop-at, length-take-le, drop-drop, drop-length}
 use lib.Dec.{leb, eqb}
@@ -146,6 +146,10 @@ module _ {A B : Type 0} (f : A → Parser B) (s : List ℕ) where
   unfolding continue
   continue-continue next then (value c n) e = ap (after n) (e c (drop n s)) ∙ after-continue n (next c (drop n s))
   continue-continue next then (fault p) e = refl
+
+-- a value and then others
+abbrev pub row : {A : Type 0} → Format A → Format (List A) → Format (List A)
+row m others = m >>= λ a. others >>= λ l. done (a ∷ l)
 
 module _ {A B : Type 0} (f : A → Format B) where
   pub read-then : (m : Format A) (s : List ℕ) → read (m >>= f) s ≡ continue (λ a. read (f a)) s (read m s)

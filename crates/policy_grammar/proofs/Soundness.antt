@@ -16,7 +16,7 @@ use Rattle.policy_grammar.specs.Grammar.{All}
 use Rattle.policy_grammar.specs.Format.{Format, done, _>>=_, number, string, anyBytes, rest, inside, times, many}
 use Rattle.policy_grammar.specs.Parser.{value, exactly, read, filling}
 use Rattle.policy_grammar.specs.Fault.{Stands}
-use Rattle.policy_grammar.proofs.Formats.{read-stands, stands-read, then-stands, stands-then}
+use Rattle.policy_grammar.proofs.Formats.{row, read-stands, stands-read, then-stands, stands-then}
 
 -- whatever stands by F, with its bytes, meets R
 abbrev pub Sound : {A : Type 0} → Format A → (A → List ℕ → Type 0) → Type 0
@@ -143,16 +143,13 @@ module _ {A : Type 0} (f : A → List ℕ) (P : A → Type 0) (m : Format A) whe
   SoMany n l = All P l × (length l ≡ n)
 
   module _ (others : Format (List A)) where
-    abbrev row : Format (List A)
-    row = m >>= λ a. others >>= λ l. done (a ∷ l)
-
-    row-sound : (Q R : List A → Type 0) → Sound m (Made f P) → Sound others (Made (flatMap f) Q) → ((a : A) (l : List A) → P a → Q l → R (a ∷ l)) → Sound row (Made (flatMap f) R)
+    row-sound : (Q R : List A → Type 0) → Sound m (Made f P) → Sound others (Made (flatMap f) Q) → ((a : A) (l : List A) → P a → Q l → R (a ∷ l)) → Sound (row m others) (Made (flatMap f) R)
     unfolding flatMap
     row-sound Q R h g j =
         then-sound m _ (Made f P) _ h λ a x p. then-sound others _ (Made (flatMap f) Q) _ g λ l y q.
         done-sound (a ∷ l) _ (j a l (p .0) (q .0), rw (append-nil, p .1, q .1))
 
-    row-complete : Complete f P m → (a : A) (l : List A) (t : List ℕ) → P a → Stands others l (flatMap f l ++ t) t → Stands row (a ∷ l) ((f a ++ flatMap f l) ++ t) t
+    row-complete : Complete f P m → (a : A) (l : List A) (t : List ℕ) → P a → Stands others l (flatMap f l ++ t) t → Stands (row m others) (a ∷ l) ((f a ++ flatMap f l) ++ t) t
     row-complete h a l t p q =
         rw append-assoc
         (then-stands _ m a _ _ (flatMap f l ++ t) t (h a (flatMap f l ++ t) p) (then-stands _ others l _ _ t t q (done-complete (a ∷ l) t)))
@@ -174,13 +171,13 @@ module _ {A : Type 0} (f : A → List ℕ) (P : A → Type 0) (m : Format A) whe
     some-left : eqb (length s) 0 ≡ false
     some-left = ne-eqb (length s) 0 (λ e. omega arith)
 
-    many-row : Stands (many (suc n) m) l s t → Stands (row (many n m)) l s t
+    many-row : Stands (many (suc n) m) l s t → Stands (row m (many n m)) l s t
     unfolding many Stands
-    many-row r = subst (λ (x : Bool). Stands (cond x (done []) (row (many n m))) l s t) some-left r
+    many-row r = subst (λ (x : Bool). Stands (cond x (done []) (row m (many n m))) l s t) some-left r
 
-    row-many : Stands (row (many n m)) l s t → Stands (many (suc n) m) l s t
+    row-many : Stands (row m (many n m)) l s t → Stands (many (suc n) m) l s t
     unfolding many Stands
-    row-many r = subst (λ (x : Bool). Stands (cond x (done []) (row (many n m))) l s t) (sym some-left) r
+    row-many r = subst (λ (x : Bool). Stands (cond x (done []) (row m (many n m))) l s t) (sym some-left) r
 
   pub many-sound : Sound m (Made f P) → (n : ℕ) → Sound (many n m) (Made (flatMap f) (All P))
   unfolding many flatMap Stands

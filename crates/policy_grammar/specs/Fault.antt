@@ -1,6 +1,6 @@
--- What a first fault is, said of the fields and not of how they are read: `FirstFault`. A string that no reading makes has one, and one only. That the
--- fault which is read is the first is `fault-exactly` of proofs/Faults.antt, where `one-place` is too; that the fields of a whole file are those of the
--- grammar is `made-exactly` of proofs/Decoding.antt, where `some-place` is.
+-- What a first fault is, said of the fields and not of how they are read: `FirstFault`, and of a whole file `FirstFaultIn`. A string that no reading makes has
+-- one, and one only. That the fault which is read is the first is `fault-exactly` of proofs/Faults.antt, where `one-place` is too; that the fields of a
+-- whole file are those of the grammar is `made-exactly` of proofs/Decoding.antt, where `some-place` is.
 use Prim.Native.Nat.{ℕ, _+_, _≤_}
 use mathlib.Core.Path.{_≡_}
 use mathlib.Core.Logic.{_↔_, _⊎_}
@@ -35,23 +35,27 @@ Reaches (part {B = B} n inner next) s p =
 Reaches (bytesLeft next) s p = Reaches (next (length s)) s p
 
 -- the first field that does not fit or breaks its rule, or the first byte after the last field of a part that is longer, is at p: not all the fields
--- stand, those before p do, and none further on
+-- stand, those before p do, and no further offset is reached
 pub record FirstFault {A : Type 0} (fields : Format A) (s : List ℕ) (p : ℕ) : Type 0 where
   pub refused : (a : A) (t : List ℕ) → Stands fields a s t → ⊥
   pub reached : Reaches fields s p
   pub furthest : (q : ℕ) → Reaches fields s q → q ≤ p
 
--- the fault of a string is its first fault as a whole file
+-- "the offset of the first field, in file order, whose rule fails or that does not fit", of a string as a whole file
+abbrev pub FirstFaultIn : List ℕ → ℕ → Type 0
+FirstFaultIn s p = FirstFault (whole (length s)) s p
+
+-- it is the fault with which the string is read
 abbrev pub FaultExactly : Type 0
-FaultExactly = (s : List ℕ) (p : ℕ) → (reading s ≡ fault p) ↔ FirstFault (whole (length s)) s p
+FaultExactly = (s : List ℕ) (p : ℕ) → (reading s ≡ fault p) ↔ FirstFaultIn s p
 
 -- no string has two first faults
 abbrev pub OnePlace : Type 0
-OnePlace = (s : List ℕ) (p q : ℕ) → FirstFault (whole (length s)) s p → FirstFault (whole (length s)) s q → p ≡ q
+OnePlace = (s : List ℕ) (p q : ℕ) → FirstFaultIn s p → FirstFaultIn s q → p ≡ q
 
 -- a string has a first fault exactly where no reading makes it
 abbrev pub SomePlace : Type 0
-SomePlace = (s : List ℕ) → Bytes s → ((p : ℕ) × FirstFault (whole (length s)) s p) ↔ ((r : Reading) → Makes r s → ⊥)
+SomePlace = (s : List ℕ) → Bytes s → ((p : ℕ) × FirstFaultIn s p) ↔ ((r : Reading) → Makes r s → ⊥)
 
 -- the fields of a whole file stand in a string with the reading that makes it, and with no other
 abbrev pub MadeExactly : Type 0

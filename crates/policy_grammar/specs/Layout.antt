@@ -1,5 +1,5 @@
--- The layout of a policy file: every field in file order, with its width and its rule.
--- A size or a count that reaches past what holds it is a fault of that field.
+-- The layout of a policy file: every field in file order, with its width and its rule. It decides which field is at fault: the rules on the bytes that
+-- are left change no string that is accepted, but say that "a size, or a 0x10 or 0x14 count, that reaches past what holds it is that field's fault".
 use Prim.Native.Nat.{ℕ, _+_, _*_, _-_}
 use mathlib.Core.Bool.{cond, _&&_, _||_}
 use mathlib.Core.List.{List, [], _∷_, _++_}
@@ -10,6 +10,7 @@ use Rattle.policy_grammar.specs.Grammar.{Digests, Body, Element, digestL
 use Rattle.policy_grammar.specs.Grammar as Grammar
 use Rattle.policy_grammar.specs.Format.{Format, _>>=_, done, number, string, any, anyBytes, rest, inside, times, many}
 
+-- the count answers for the digests; bytes behind the last of them are those of no field
 unfoldable pub digests : Format Digests
 digests = do
   a ← number 2 (λ left a. leb 1 (digestLength a))
@@ -37,7 +38,7 @@ other = do
 unfoldable pub body : ℕ → Format Body
 body type = cond (eqb type launchType) launch (cond (eqb type stmType) stm other)
 
--- the size counts itself, which is 4 bytes
+-- the size counts itself, which is 4 bytes, and answers for type, control and body
 unfoldable pub element : Format Element
 element = do
   n ← number 4 (λ left n. leb 12 n && leb n (4 + left))
@@ -46,7 +47,7 @@ element = do
   b ← inside (n - 12) (body t)
   done (record { size = n; type = t; control = c; body = b })
 
--- the key size answers for the key and the signature
+-- "the key size answers for key and signature together"
 unfoldable pub signed : Format Signing
 signed = do
   c ← number 2 any
@@ -58,6 +59,7 @@ signed = do
 unfoldable pub signing : ℕ → Format Signing
 signing algorithm = cond (eqb algorithm 0x0014) signed (done Grammar.unsigned)
 
+-- the elements size answers for the elements
 unfoldable pub list : Format PolicyList
 list = do
   v ← number 2 (λ left v. eqb v 0x0200 || eqb v 0x0201)
@@ -67,7 +69,8 @@ list = do
   g ← signing a
   done (record { version = v; signatureAlgorithm = a; elementsSize = n; elements = es; signing = g })
 
--- the 28 characters and 4 zeros are one field
+-- "the 32-byte mark is one field and the 3 zeros another": the 28 characters and 4 zeros are the mark. The list count answers for no list: one that is
+-- missing is at fault itself
 unfoldable pub file : Format Reading
 file = do
   m ← string 32 (λ b. same b (markCharacters ++ (0 ∷ 0 ∷ 0 ∷ 0 ∷ [])))
@@ -76,6 +79,6 @@ file = do
   ls ← times n list
   done (record { mark = take 28 m; markZeros = drop 28 m; reserved = z; listCount = n; lists = ls })
 
--- "nothing after"
+-- "nothing after"; "extra bytes after a part's last field give the offset of the first of them"
 unfoldable pub whole : ℕ → Format Reading
 whole n = inside n file

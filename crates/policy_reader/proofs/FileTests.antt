@@ -2,6 +2,7 @@
 use Prim.Native.Nat.{ℕ, _+_, _-_, _≤_, _<_, _^_}
 use native.Mathlib.Omega.{arith}
 use mathlib.Core.Path.{_≡_, refl, ap, sym, _∙_}
+use mathlib.Core.Logic.{inl, inr}
 use mathlib.Core.Bool.{Bool, true, false, _&&_, not, and-false}
 use mathlib.Core.List.{List, [], _∷_, _++_}
 use lib.ListN.{length, take, drop}
@@ -18,12 +19,13 @@ use Rattle.policy_grammar.specs.Layout.{whole}
 use Rattle.policy_grammar.specs.Decode.{reading, accepted, faultPlace}
 use Rattle.policy_grammar.specs.Sizes.{sized}
 use Rattle.policy_grammar.proofs.Heads.{Upto, upto-start, number-holds, number-wrong, string-holds, string-wrong, over, last-filling, inside-read}
-use Rattle.policy_answers.specs.Answers.{fileShown}
+use Rattle.policy_answers.specs.Answers.{fileAnswer}
 use Rattle.policy_answers.specs.declared.FileAnswer.{FileAnswer}
 use Rattle.policy_answers.specs.declared.FileAnswer.the-variants.{Accepted, WrongSize, NotOfGrammar}
 use Rattle.policy_reader.specs.Inner.{extentOf, end}
 use Rattle.policy_reader.specs.declared.Extent.{Extent}
 use Rattle.policy_reader.specs.declared.Extent.the-variants.{Size, Fault}
+use Rattle.policy_reader.proofs.Places.{sized-inside, sized-outside}
 use Rattle.policy_reader.proofs.ReadExtents.{size-read, fault-read, rest-fits}
 
 abbrev pub mark : List ℕ
@@ -52,21 +54,21 @@ listsOf m z n = times n Layout.list >>= λ ls. done (readingOf m z n ls)
 
 module _ (s : List ℕ) where
   abbrev shown : FileAnswer
-  shown = fileShown s (accepted s) (faultPlace s)
+  shown = fileAnswer s
 
   outside : sized s ≡ false → WrongSize ≡ shown
   unfolding accepted
   outside e = rw (e, e)
 
   pub read-short : length s < 36 → WrongSize ≡ shown
-  read-short h = outside (rw (lt-leb 36 (length s) h))
+  read-short h = outside (sized-outside s (inl h))
 
   pub read-long : 65536 < length s → WrongSize ≡ shown
-  read-long h = outside (rw (lt-leb (length s) 65536 h) (and-false (leb 36 (length s))))
+  read-long h = outside (sized-outside s (inr h))
 
   module _ (l : 36 ≤ length s) (u : length s ≤ 65536) where
     inside : sized s ≡ true
-    inside = rw (le-leb 36 (length s) l, le-leb (length s) 65536 u)
+    inside = sized-inside s l u
 
     reading-is : reading s ≡ filling Layout.file s
     unfolding reading whole

@@ -5,7 +5,7 @@ mod ElementTests
 mod ListTests
 mod Rows
 mod FileTests
-mod FieldNumbers
+mod ElementNumbers
 -- Loops over elements and lists.
 mod Cuts
 pub mod Standing

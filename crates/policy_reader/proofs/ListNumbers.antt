@@ -29,7 +29,7 @@ use Rattle.policy_reader.specs.Offsets.{StandsAt}
 use Rattle.policy_reader.specs.declared.Extent.{Extent}
 use Rattle.policy_reader.specs.declared.Extent.the-variants.{Size, Fault}
 use Rattle.policy_reader.proofs.ReadExtents.{size-read, fault-read}
-use Rattle.policy_reader.proofs.FieldNumbers.{stands-number}
+use Rattle.policy_reader.proofs.ElementNumbers.{stands-number}
 use Rattle.policy_reader.proofs.Standing.{list-length}
 use Rattle.policy_reader.proofs.Places.{signing-at}
 
@@ -61,7 +61,7 @@ module _ (t rest : List ℕ) (start size version n a : ℕ) where
     signed-size (Grammar.signed g) h f e q = let (i, j) = numbers g h f in rw j q
 
 -- a list that stands at the front
-pub record AtFront (t : List ℕ) (size : ℕ) (l : PolicyList) : Type 0 where
+pub record ListAtFront (t : List ℕ) (size : ℕ) (l : PolicyList) : Type 0 where
   pub stands : StandsAt listBytes ValidList t 0 l
   pub long : length (listBytes l) ≡ size
   pub within : size ≤ length t
@@ -69,7 +69,7 @@ pub record AtFront (t : List ℕ) (size : ℕ) (l : PolicyList) : Type 0 where
   pub algorithm-at : drop 2 t ≡ bytes 2 (l .signatureAlgorithm) ++ drop 4 t
   pub size-at : drop 4 t ≡ bytes 4 (l .elementsSize) ++ drop 8 t
 
-at-front : (t : List ℕ) (size : ℕ) (l : PolicyList) → ValidList l × (length (listBytes l) ≡ size) × (listBytes l ++ drop size t ≡ t) → AtFront t size l
+at-front : (t : List ℕ) (size : ℕ) (l : PolicyList) → ValidList l × (length (listBytes l) ≡ size) × (listBytes l ++ drop size t ≡ t) → ListAtFront t size l
 unfolding bytes
 at-front t size l (v, e, m) =
     record {
@@ -89,8 +89,8 @@ module _ (t : List ℕ) (start : ℕ) (b : (i : ℕ) → Fits w8 (getD t i 0)) (
   abbrev shown : ListAnswer
   shown = listShown start (valueOf (Decode.list t))
 
-  pub list-none : (p : ℕ) → w ≡ Fault p → Absent ≡ shown
-  list-none p q = rw (fault-read (read Layout.list t) p (sym ew ∙ q))
+  pub answers-none : (p : ℕ) → w ≡ Fault p → Absent ≡ shown
+  answers-none p q = rw (fault-read (read Layout.list t) p (sym ew ∙ q))
 
   module _ (size : ℕ) (qw : w ≡ Size size) where
     there : (l : PolicyList) × (Decode.list t ≡ value l size)
@@ -99,7 +99,7 @@ module _ (t : List ℕ) (start : ℕ) (b : (i : ℕ) → Fits w8 (getD t i 0)) (
     abbrev l : PolicyList
     l = there .0
 
-    front : AtFront t size l
+    front : ListAtFront t size l
     front = at-front t size l (reads-sound listBytes ValidList Layout.list list-sound t l size (λ i. b i .fits) (there .1))
 
     valid : ValidList l
@@ -113,8 +113,8 @@ module _ (t : List ℕ) (start : ℕ) (b : (i : ℕ) → Fits w8 (getD t i 0)) (
         let e : length (listBytes l) ≡ 8 + length (flatMap elementBytes (l .elements)) + length (signingBytes (l .signing)) = simp (length-append, length-bytes) (omega arith) in
         omega (arith, front .within, front .long)
 
-    pub elements-fits : start + length t < 2 ^ 64 → start + 8 < 2 ^ 64
-    elements-fits h = omega (arith, eight)
+    pub elements-offset-fits : start + length t < 2 ^ 64 → start + 8 < 2 ^ 64
+    elements-offset-fits h = omega (arith, eight)
 
     module _ (version n a : ℕ) (ev : version ≡ numberAt t 0 2) (en : n ≡ numberAt t 4 4) (ea : a ≡ numberAt t 2 2) where
       version-is : version ≡ l .version
@@ -135,8 +135,8 @@ module _ (t : List ℕ) (start : ℕ) (b : (i : ℕ) → Fits w8 (getD t i 0)) (
       size-is : size ≡ listSize (signingShown start version n (l .signing))
       size-is = rw (version-is, n-is) sized
 
-      pub list-unsigned : (a ≡ 0x0014 → ⊥) → Unsigned start size version (start + 8) n ≡ shown
-      list-unsigned h = shown-unsigned t (front .stands .rest) start size version n a (l .signing) signing-valid h size-is ∙ is
+      pub answers-unsigned : (a ≡ 0x0014 → ⊥) → Unsigned start size version (start + 8) n ≡ shown
+      answers-unsigned h = shown-unsigned t (front .stands .rest) start size version n a (l .signing) signing-valid h size-is ∙ is
 
       module _ (q : a ≡ 0x0014) (k : ℕ) (ek : k ≡ numberAt t (8 + n + 2) 2) where
         follows : drop (8 + n) t ≡ signingBytes (l .signing) ++ front .stands .rest
@@ -144,19 +144,19 @@ module _ (t : List ℕ) (start : ℕ) (b : (i : ℕ) → Fits w8 (getD t i 0)) (
             let i : 0 + (8 + l .elementsSize) ≡ 8 + n = omega (arith, n-is) in
             rw i at (signing-at t 0 l (front .stands))
 
-        pub list-signed : (c : ℕ) → c ≡ numberAt t (8 + n) 2 → Signed start size version (start + 8) n c k (start + (8 + n) + 4) (start + (8 + n) + 4 + k) ≡ shown
-        list-signed c ec = shown-signed t (front .stands .rest) start size version n a c k ec ek (l .signing) signing-valid follows q size-is ∙ is
+        pub answers-signed : (c : ℕ) → c ≡ numberAt t (8 + n) 2 → Signed start size version (start + 8) n c k (start + (8 + n) + 4) (start + (8 + n) + 4 + k) ≡ shown
+        answers-signed c ec = shown-signed t (front .stands .rest) start size version n a c k ec ek (l .signing) signing-valid follows q size-is ∙ is
 
         signed-within : 8 + n + 4 + k + k ≤ length t
         signed-within =
             omega (arith, front .within, signed-size t (front .stands .rest) start size version n a (numberAt t (8 + n) 2) k refl ek (l .signing) signing-valid follows q size-is)
 
         module _ (h : start + length t < 2 ^ 64) where
-          pub signing-fits : start + (8 + n) < 2 ^ 64
-          signing-fits = omega (arith, signed-within)
+          pub signing-offset-fits : start + (8 + n) < 2 ^ 64
+          signing-offset-fits = omega (arith, signed-within)
 
-          pub key-fits : start + (8 + n) + 4 < 2 ^ 64
-          key-fits = omega (arith, signed-within)
+          pub key-offset-fits : start + (8 + n) + 4 < 2 ^ 64
+          key-offset-fits = omega (arith, signed-within)
 
-          pub signature-fits : start + (8 + n) + 4 + k < 2 ^ 64
-          signature-fits = omega (arith, signed-within)
+          pub signature-offset-fits : start + (8 + n) + 4 + k < 2 ^ 64
+          signature-offset-fits = omega (arith, signed-within)

@@ -1,5 +1,5 @@
--- A loop over what stands one after the other in a string: which one has a number, and whether they fill it, as many as there are or so many.
--- The answer at the offset, and its size, are those that the loop has in hand. One invariant serves all: whatever stands there, so many have been passed.
+-- A loop over what stands one after the other in a string, to the one that has a number. The answer at the offset, and its size, are those that the loop has
+-- in hand. The invariant: whatever stands there, so many have been passed.
 use Prim.Native.Nat.{ℕ, _+_, _-_, _≤_, _<_, _^_}
 use native.Mathlib.Omega.{arith}
 use mathlib.Core.Path.{_≡_, ap, sym, _∙_}
@@ -64,9 +64,6 @@ module _ (κ : Kind) (s : List ℕ) (at : ℕ) (b : (i : ℕ) → Fits w8 (getD 
 
   pub fits : (z ≡ 0 → ⊥) → length s < 2 ^ 64 → at + z < 2 ^ 64
   fits h u = omega (arith, within h)
-
-  pub less : (z ≡ 0 → ⊥) → length s - (at + z) < length s - at
-  less h = omega (arith, stands κ s at b e z ee ez h)
 
   -- which one has the number j
   pub passes-on : (start k : ℕ) → (z ≡ 0 → ⊥) → Passed κ s start at k → Passed κ s start (at + z) (k + 1)

@@ -1,14 +1,15 @@
 -- Where the parts of a reading stand in the string that it makes: each list after the 36 bytes and the lists before it, and in a list its elements, its key and its signature.
-use Prim.Native.Nat.{ℕ, _+_, _-_, _≤_}
+use Prim.Native.Nat.{ℕ, _+_, _≤_, _<_}
 use native.Mathlib.Omega.{arith}
 use mathlib.Core.Path.{_≡_, refl, ap, sym, _∙_}
 use mathlib.Core.Logic.{_⊎_, ⊎-elim}
-use mathlib.Core.Bool.{Bool, true, false, cond}
+use mathlib.Core.Bool.{Bool, true, false, cond, and-false}
 use mathlib.Core.List.{List, [], _∷_, _++_, flatMap, append-assoc, append-nil}
 use mathlib.Core.Option.{some, none}
 use lib.ListN.{length, take, drop, getElem?, length-append, length-drop}
 use lib.Seq.{take-at, drop-at, drop-drop}
-use borrow.Author.Tests.{le-leb}
+use lib.Dec.{leb}
+use borrow.Author.Tests.{le-leb, lt-leb}
 use Rattle.field.specs.Number.{Bytes, bytes}
 use Rattle.field.proofs.Laws.{length-bytes}
 use Rattle.policy_grammar.specs.Grammar.{All, Element, elementBytes, ValidElement, signingBytes, PolicyList, listBytes, ValidList, Reading, Makes, markCharacters}
@@ -19,6 +20,13 @@ use Rattle.policy_answers.specs.Answers.{place}
 use Rattle.policy_reader.specs.Offsets.{StandsAt}
 use Rattle.policy_grammar.proofs.Decoding.{reading-sound, reading-complete}
 use Rattle.policy_reader.proofs.Cuts.{cut, Cut, all-drop, flat-drop}
+
+-- the size of a string that is read, and of one that is not
+pub sized-inside : (s : List ℕ) → 36 ≤ length s → length s ≤ 65536 → sized s ≡ true
+sized-inside s l u = rw (le-leb 36 (length s) l, le-leb (length s) 65536 u)
+
+pub sized-outside : (s : List ℕ) → (length s < 36) ⊎ (65536 < length s) → sized s ≡ false
+sized-outside s u = ⊎-elim (λ l. rw (lt-leb 36 (length s) l)) (λ l. rw (lt-leb (length s) 65536 l) (and-false (leb 36 (length s)))) u
 
 -- an accepted string is made from the reading with which it is accepted
 pub accepted-sound : (s : List ℕ) (r : Reading) → Bytes s → accepted s ≡ some r → Makes r s × (sized s ≡ true)
@@ -42,7 +50,7 @@ makes-long r s m =
 
 pub accepted-complete : (r : Reading) (s : List ℕ) → Makes r s → length s ≤ 65536 → accepted s ≡ some r
 unfolding accepted
-accepted-complete r s m h = rw (le-leb 36 (length s) (makes-long r s m), le-leb (length s) 65536 h, reading-complete r s m)
+accepted-complete r s m h = rw (sized-inside s (makes-long r s m) h, reading-complete r s m)
 
 -- the lists stand from offset 36 on
 pub lists-stand : (r : Reading) (s : List ℕ) → Makes r s → drop 36 s ≡ flatMap listBytes (r .lists)

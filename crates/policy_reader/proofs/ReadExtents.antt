@@ -14,7 +14,7 @@ use Rattle.field.specs.declared.Field.the-variants.{Number, Outside}
 use Rattle.field.proofs.Laws.{field-fits, field-outside, number-at-fits, from-offset}
 use Rattle.policy_grammar.specs.Format.{Format, done, _>>=_, number}
 use Rattle.policy_grammar.specs.Parser.{Read, value, fault, after, continue, exactly, read, filling}
-use Rattle.policy_grammar.proofs.Formats.{read-then}
+use Rattle.policy_grammar.proofs.Formats.{row, read-then}
 use Rattle.policy_grammar.proofs.Faults.{reach, reach-exactly, within}
 use Rattle.policy_grammar.proofs.Heads.{Upto, number-short, over, last-read}
 use Rattle.policy_grammar.proofs.Heads as Heads
@@ -65,7 +65,7 @@ module _ {A : Type 0} where
   pub end-within : (F : Format A) (s : List ℕ) (x : Extent) → x ≡ extentOf (read F s) → end x ≤ length s
   end-within F s x e = omega (arith, ap end e, end-is (read F s), within F s)
 
-  pub end-filling : (F : Format A) (s : List ℕ) (x : Extent) → x ≡ extentOf (filling F s) → end x ≤ length s
+  end-filling : (F : Format A) (s : List ℕ) (x : Extent) → x ≡ extentOf (filling F s) → end x ≤ length s
   end-filling F s x e = omega (arith, ap end e, end-is (filling F s), reach-exactly (length s) (read F s), within F s)
 
   -- nor past the part of a string from an offset on
@@ -134,13 +134,10 @@ module _ {A B : Type 0} where
 -- VALUES IN A ROW
 
 module _ {A : Type 0} (m : Format A) (others : Format (List A)) (s : List ℕ) where
-  abbrev pub row : Format (List A)
-  row = m >>= λ a. others >>= λ l. done (a ∷ l)
-
-  pub row-on : (a : A) (n : ℕ) → read m s ≡ value a n → n ≤ length s → extentOf (filling row s) ≡ further n (extentOf (filling others (drop n s)))
+  pub row-on : (a : A) (n : ℕ) → read m s ≡ value a n → n ≤ length s → extentOf (filling (row m others) s) ≡ further n (extentOf (filling others (drop n s)))
   unfolding continue
-  row-on a n e l = last-filling row s n others (λ k. a ∷ k) (read-then (λ a. others >>= λ k. done (a ∷ k)) m s ∙ rw e) l
+  row-on a n e l = last-filling (row m others) s n others (λ k. a ∷ k) (read-then (λ a. others >>= λ k. done (a ∷ k)) m s ∙ rw e) l
 
-  pub row-stops : (p : ℕ) → read m s ≡ fault p → extentOf (filling row s) ≡ Fault p
+  pub row-stops : (p : ℕ) → read m s ≡ fault p → extentOf (filling (row m others) s) ≡ Fault p
   unfolding continue
-  row-stops p e = sym (faulty row s p (read-then (λ a. others >>= λ k. done (a ∷ k)) m s ∙ rw e))
+  row-stops p e = sym (faulty (row m others) s p (read-then (λ a. others >>= λ k. done (a ∷ k)) m s ∙ rw e))

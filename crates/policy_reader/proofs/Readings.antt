@@ -3,12 +3,11 @@ use Prim.Native.Nat.{ℕ, _≤_, _<_}
 use native.Mathlib.Omega.{arith}
 use mathlib.Core.Path.{_≡_, refl, ap, sym, _∙_}
 use mathlib.Core.Logic.{_⊎_, ⊎-elim}
-use mathlib.Core.Bool.{Bool, true, false, cond, and-eq-true-iff, and-false}
+use mathlib.Core.Bool.{Bool, true, false, cond, and-eq-true-iff}
 use mathlib.Core.List.{List}
 use mathlib.Core.Option.{Option, some, none}
 use lib.ListN.{length, getD}
-use lib.Dec.{leb}
-use borrow.Author.Tests.{le-leb, lt-leb, leb-true}
+use borrow.Author.Tests.{leb-true}
 use mir.Val.{Fits}
 use mir.Syntax.{w8}
 use Rattle.field.specs.Number.{Bytes}
@@ -17,13 +16,13 @@ use Rattle.policy_grammar.specs.Sizes.{sized}
 use Rattle.policy_grammar.specs.Decode.{reading, accepted, faultPlace}
 use Rattle.policy_grammar.specs.Parser.{Read, value, fault, valueOf, faultOf}
 use Rattle.policy_grammar.specs.Layout.{whole}
-use Rattle.policy_grammar.specs.Fault.{FirstFault}
-use Rattle.policy_grammar.proofs.Faults.{reach, within, fault-exactly}
+use Rattle.policy_grammar.specs.Fault.{FirstFaultIn}
+use Rattle.policy_grammar.proofs.Faults.{reach, within, one-place, fault-exactly}
 use Rattle.policy_grammar.proofs.Decoding.{unique}
 use Rattle.policy_answers.specs.declared.FileAnswer.{FileAnswer}
-use Rattle.policy_answers.specs.Answers.{fileShown}
+use Rattle.policy_answers.specs.Answers.{fileAnswer}
 use Rattle.policy_reader.specs.Readings.{MadeFrom, IsReadingOf, IsPlaceOf, ReadExactly}
-use Rattle.policy_reader.proofs.Places.{accepted-sound, accepted-complete}
+use Rattle.policy_reader.proofs.Places.{sized-inside, sized-outside, accepted-sound, accepted-complete}
 
 inside : (s : List ℕ) → sized s ≡ true → (36 ≤ length s) × (length s ≤ 65536)
 inside s e = let p = and-eq-true-iff _ _ .0 e in (leb-true _ _ (p .0), leb-true _ _ (p .1))
@@ -49,7 +48,7 @@ module _ (s : List ℕ) where
   fault-outside e = rw e
 
   -- where a string of a size that is read has no reading, the place is that of its first fault
-  pub place-first : sized s ≡ true → accepted s ≡ none → FirstFault (whole (length s)) s (faultPlace s)
+  place-first : sized s ≡ true → accepted s ≡ none → FirstFaultIn s (faultPlace s)
   unfolding accepted faultPlace
   place-first e q = fault-exactly s (cond (sized s) (faultOf (reading s)) 0) .0 (go (reading s) refl)
     where
@@ -69,12 +68,6 @@ module _ (s : List ℕ) where
       go true e = omega (arith, inside s e .1, fault-reach (reading s), within (whole (length s)) s)
       go false e = omega arith
 
-  size-is : (36 ≤ length s) → (length s ≤ 65536) → sized s ≡ true
-  size-is l u = rw (le-leb 36 (length s) l, le-leb (length s) 65536 u)
-
-  size-not : (length s < 36) ⊎ (65536 < length s) → sized s ≡ false
-  size-not u = ⊎-elim (λ l. rw (lt-leb 36 (length s) l)) (λ l. rw (lt-leb (length s) 65536 l) (and-false (leb 36 (length s)))) u
-
   -- an accepted string has no place
   none-at : (r : Reading) → accepted s ≡ some r → faultPlace s ≡ 0
   unfolding accepted faultPlace
@@ -86,7 +79,7 @@ module _ (s : List ℕ) where
       go false g h = refl
 
   pub is-place : IsPlaceOf s (accepted s) (faultPlace s)
-  is-place = record { first = λ l u q. place-first (size-is l u) q; outside = λ u. fault-outside (size-not u); accepted = none-at }
+  is-place = record { first = λ l u q. place-first (sized-inside s l u) q; outside = λ u. fault-outside (sized-outside s u); accepted = none-at; one = one-place s }
 
-pub read-exactly : (s : List ℕ) → ((i : ℕ) → Fits w8 (getD s i 0)) → (r : FileAnswer) → r ≡ fileShown s (accepted s) (faultPlace s) → (r ≡ fileShown s (accepted s) (faultPlace s)) × ReadExactly s r
+pub read-exactly : (s : List ℕ) → ((i : ℕ) → Fits w8 (getD s i 0)) → (r : FileAnswer) → r ≡ fileAnswer s → (r ≡ fileAnswer s) × ReadExactly s r
 read-exactly s b r e = (e, record { reading = accepted s; is = is-reading s (λ i. b i .fits); place = faultPlace s; is-place = is-place s; shown = e })

@@ -16,13 +16,13 @@ use Rattle.policy_grammar.specs.Format.{Format, done, times, many}
 use Rattle.policy_grammar.specs.Parser.{Read, value, fault, exactly, read, filling}
 use Rattle.policy_grammar.specs.Layout as Layout
 use Rattle.policy_grammar.specs.Grammar.{Element, elementBytes, ValidElement, PolicyList}
-use Rattle.policy_grammar.proofs.Formats.{read-stands}
+use Rattle.policy_grammar.proofs.Formats.{row, read-stands}
 use Rattle.policy_grammar.proofs.Soundness.{reads-sound}
 use Rattle.policy_grammar.proofs.Decoding.{element-sound, element-length}
 use Rattle.policy_reader.specs.Inner.{extentOf, further, end}
 use Rattle.policy_reader.specs.declared.Extent.{Extent}
 use Rattle.policy_reader.specs.declared.Extent.the-variants.{Size, Fault}
-use Rattle.policy_reader.proofs.ReadExtents.{end-within, size-read, fault-read, further-none, further-further, row, row-on, row-stops}
+use Rattle.policy_reader.proofs.ReadExtents.{end-within, size-read, fault-read, further-none, further-further, row-on, row-stops}
 
 -- what the whole of a string gives is what the rest gives, so many bytes on
 abbrev Rest : {A B : Type 0} → Format A → List ℕ → ℕ → Format B → Type 0
@@ -33,10 +33,10 @@ rest-start F t = sym (further-none (extentOf (filling F t)))
 
 -- the value at an offset, by its extent, and the fault
 module _ {A : Type 0} (m : Format A) (t : List ℕ) (at : ℕ) (x : Extent) (ex : x ≡ extentOf (read m (drop at t))) (n : ℕ) where
-  pub value-there : x ≡ Size n → (a : A) × (read m (drop at t) ≡ value a n)
+  value-there : x ≡ Size n → (a : A) × (read m (drop at t) ≡ value a n)
   value-there q = size-read (read m (drop at t)) n (sym ex ∙ q)
 
-  pub fault-there : x ≡ Fault n → read m (drop at t) ≡ fault n
+  fault-there : x ≡ Fault n → read m (drop at t) ≡ fault n
   fault-there q = fault-read (read m (drop at t)) n (sym ex ∙ q)
 
   -- it is within the string
@@ -50,7 +50,7 @@ module _ {A : Type 0} (m : Format A) (t : List ℕ) (at : ℕ) (x : Extent) (ex 
   fault-ends q l h = omega (arith, ap end q, end-within m (drop at t) x ex, length-drop at t)
 
 -- a row of values at an offset: one is read and the others follow it, or its fault is one of the whole
-module _ {A B : Type 0} (F : Format B) (m : Format A) (others G : Format (List A)) (t : List ℕ) (at : ℕ) (is-row : filling G (drop at t) ≡ filling (row m others (drop at t)) (drop at t)) (r : Rest F t at G) where
+module _ {A B : Type 0} (F : Format B) (m : Format A) (others G : Format (List A)) (t : List ℕ) (at : ℕ) (is-row : filling G (drop at t) ≡ filling (row m others) (drop at t)) (r : Rest F t at G) where
   rest-on : (a : A) (n : ℕ) → read m (drop at t) ≡ value a n → Rest F t (at + n) others
   rest-on a n e =
       let (l, st) = read-stands m (drop at t) a n e in
@@ -73,10 +73,10 @@ pub elements-start : (t : List ℕ) → Elements t 0
 elements-start t = (length t, omega arith, rest-start (many (length t) Layout.element) t)
 
 module _ (t : List ℕ) (b : (i : ℕ) → Fits w8 (getD t i 0)) (at : ℕ) (x : Extent) (ex : x ≡ extentOf (read Layout.element (drop at t))) (n : ℕ) (h : at < length t) where
-  more : (k : ℕ) → filling (many (suc k) Layout.element) (drop at t) ≡ filling (row Layout.element (many k Layout.element) (drop at t)) (drop at t)
+  more : (k : ℕ) → filling (many (suc k) Layout.element) (drop at t) ≡ filling (row Layout.element (many k Layout.element)) (drop at t)
   unfolding many read
   more k =
-      ap (λ (x : Bool). exactly (length (drop at t)) (read (cond x (done []) (row Layout.element (many k Layout.element) (drop at t))) (drop at t)))
+      ap (λ (x : Bool). exactly (length (drop at t)) (read (cond x (done []) (row Layout.element (many k Layout.element))) (drop at t)))
       (ne-eqb (length (drop at t)) 0 (λ e. omega (arith, length-drop at t)))
 
   there : x ≡ Size n → (e : Element) × (read Layout.element (drop at t) ≡ value e n) × (0 < n)
@@ -115,7 +115,7 @@ pub lists-start : (t : List ℕ) (n : ℕ) → Lists t n 0 0
 lists-start t n = let i : n - 0 ≡ n = omega arith in rw i (rest-start (times n Layout.list) t)
 
 module _ (t : List ℕ) (n at k : ℕ) (x : Extent) (ex : x ≡ extentOf (read Layout.list (drop at t))) (z : ℕ) (h : k < n) (r : Lists t n at k) where
-  another : filling (times (n - k) Layout.list) (drop at t) ≡ filling (row Layout.list (times (n - (k + 1)) Layout.list) (drop at t)) (drop at t)
+  another : filling (times (n - k) Layout.list) (drop at t) ≡ filling (row Layout.list (times (n - (k + 1)) Layout.list)) (drop at t)
   unfolding times
   another = let i : n - k ≡ suc (n - (k + 1)) = omega arith in rw i
 

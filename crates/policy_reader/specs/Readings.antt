@@ -7,8 +7,7 @@ use mathlib.Core.Option.{Option, some, none}
 use lib.ListN.{length}
 use Rattle.policy_grammar.specs.Grammar.{Reading, Makes}
 use Rattle.policy_grammar.specs.Sizes.{leastFile, largestFile}
-use Rattle.policy_grammar.specs.Layout.{whole}
-use Rattle.policy_grammar.specs.Fault.{FirstFault}
+use Rattle.policy_grammar.specs.Fault.{FirstFaultIn}
 use Rattle.policy_answers.specs.declared.FileAnswer.{FileAnswer}
 use Rattle.policy_answers.specs.Answers.{fileShown}
 
@@ -23,12 +22,13 @@ pub record IsReadingOf (s : List ℕ) (o : Option Reading) : Type 0 where
   pub outside : (length s < leastFile) ⊎ (largestFile < length s) → o ≡ none
   pub one : (r r′ : Reading) → Makes r s → Makes r′ s → r ≡ r′
 
--- p is the place of a string with the reading o: where a string of 36 to 65,536 bytes has none, the offset of the first field at fault, which is one only
--- (`OnePlace`), and for every other string 0
+-- p is the place of a string with the reading o: where a string of 36 to 65,536 bytes has none, the offset of the first field at fault, and for every other
+-- string 0; no string of whatever length has two first faults
 pub record IsPlaceOf (s : List ℕ) (o : Option Reading) (p : ℕ) : Type 0 where
-  pub first : leastFile ≤ length s → length s ≤ largestFile → o ≡ none → FirstFault (whole (length s)) s p
+  pub first : leastFile ≤ length s → length s ≤ largestFile → o ≡ none → FirstFaultIn s p
   pub outside : (length s < leastFile) ⊎ (largestFile < length s) → p ≡ 0
   pub accepted : (r : Reading) → o ≡ some r → p ≡ 0
+  pub one : (q q′ : ℕ) → FirstFaultIn s q → FirstFaultIn s q′ → q ≡ q′
 
 -- the answer is for the reading with which the string is accepted, if one is, and else for the place of its first fault
 pub record ReadExactly (s : List ℕ) (answer : FileAnswer) : Type 0 where

@@ -1,6 +1,6 @@
 // Elements, field by field in file order: how many bytes one takes, whether elements fill a part, or where the first fault is.
 use crate::Extent;
-use crate::extents::behind;
+use crate::extents::further;
 use crate::numbers::number;
 use field::Field;
 use policy_answers::LAUNCH_TYPE;
@@ -49,7 +49,7 @@ fn launch_extent(b: &[u8]) -> Extent
     if let Field::Outside(at) = field::read(b, 1, 1) {
         return Extent::Fault(at);
     }
-    behind(2, digests_extent(&b[2..]))
+    further(2, digests_extent(&b[2..]))
 }
 
 // The element at the front of t. Its body is judged as the part of t that it is.
@@ -68,10 +68,10 @@ fn first_extent(t: &[u8]) -> Extent
     }
     let kind = number(t, 4, 4);
     if kind == LAUNCH_TYPE {
-        return behind(12, launch_extent(&t[12..size]));
+        return further(12, launch_extent(&t[12..size]));
     }
     if kind == STM_TYPE {
-        return behind(12, digests_extent(&t[12..size]));
+        return further(12, digests_extent(&t[12..size]));
     }
     Extent::Size(size)
 }

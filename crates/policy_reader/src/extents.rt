@@ -2,12 +2,12 @@
 use crate::Extent;
 ghost use mathlib.Core.Path.{_≡_};
 ghost use Prim.Native.Nat.{_+_, _<_, _^_};
-ghost use Rattle.policy_reader.specs.Inner.{further, end};
+ghost use Rattle.policy_reader.specs.Inner as spec;
 
 // What is read n bytes on.
-pub(crate) fn behind(n: usize, x: Extent) -> Extent
-    requires { ⌜ n + end x < 2 ^ 64 ⌝ }
-    ensures { λ r. ⌜ r ≡ further n x ⌝ }
+pub(crate) fn further(n: usize, x: Extent) -> Extent
+    requires { ⌜ n + spec.end x < 2 ^ 64 ⌝ }
+    ensures { λ r. ⌜ r ≡ spec.further n x ⌝ }
 {
     match x {
         Extent::Size(k) => Extent::Size(n + k),

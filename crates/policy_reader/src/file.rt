@@ -7,8 +7,8 @@ use crate::lists::lists_extent;
 use crate::numbers::number;
 use policy_answers::FileAnswer;
 ghost use mathlib.Core.Path.{_≡_};
-ghost use Rattle.policy_grammar.specs.Decode.{accepted, faultPlace};
-ghost use Rattle.policy_answers.specs.Answers.{fileShown};
+ghost use Rattle.policy_grammar.specs.Decode.{accepted};
+ghost use Rattle.policy_answers.specs.Answers.{fileAnswer};
 ghost use Rattle.policy_reader.specs.Readings.{ReadExactly};
 
 // The most lists of a file.
@@ -21,7 +21,7 @@ const LIST_COUNT: usize = 35;
 
 // The answer for s, field by field in file order. A string of the least size has all the fields before its lists.
 fn tested(s: &[u8]) -> FileAnswer
-    ensures { λ r. ⌜ r ≡ fileShown (now (s .entry)) (accepted (now (s .entry))) (faultPlace (now (s .entry))) ⌝ }
+    ensures { λ r. ⌜ r ≡ fileAnswer (now (s .entry)) ⌝ }
 {
     if s.len() < LEAST_FILE {
         return FileAnswer::WrongSize;
@@ -52,7 +52,7 @@ fn tested(s: &[u8]) -> FileAnswer
 
 // What the string s is: of a wrong size, not of the grammar, with the offset of the first field at fault, or accepted with the number of its lists.
 pub fn read(s: &[u8]) -> FileAnswer
-    ensures { λ r. ⌜ (r ≡ fileShown (now (s .entry)) (accepted (now (s .entry))) (faultPlace (now (s .entry)))) × ReadExactly (now (s .entry)) r ⌝ }
+    ensures { λ r. ⌜ (r ≡ fileAnswer (now (s .entry))) × ReadExactly (now (s .entry)) r ⌝ }
 {
     tested(s)
 }

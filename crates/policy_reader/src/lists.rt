@@ -1,7 +1,7 @@
 // Lists, field by field in file order: how many bytes one takes, whether so many lists fill a part, or where the first fault is.
 use crate::Extent;
 use crate::elements::elements_extent;
-use crate::extents::behind;
+use crate::extents::further;
 use crate::numbers::one_of;
 use field::Field;
 ghost use mathlib.Core.Path.{_≡_};
@@ -62,7 +62,7 @@ fn first_extent(t: &[u8]) -> Extent
         return Extent::Fault(8 + p);
     }
     if algorithm == 0x0014 {
-        return behind(end, signed_extent(&t[end..]));
+        return further(end, signed_extent(&t[end..]));
     }
     Extent::Size(end)
 }

@@ -9,8 +9,8 @@ use Rattle.heap.specs.Heap.{numberOf, heapOf}
 use Rattle.sinit.specs.Rules as sinit
 use Rattle.pages.specs.Rules as pages
 use Rattle.policy_grammar.specs.Parser.{valueOf}
-use Rattle.policy_grammar.specs.Decode.{element, accepted, faultPlace}
-use Rattle.policy_answers.specs.Answers.{fileShown}
+use Rattle.policy_grammar.specs.Decode.{element}
+use Rattle.policy_answers.specs.Answers.{fileAnswer}
 use Rattle.policy_answers.specs.Seen as policy
 use Rattle.field.specs.Number.{bytes}
 use Rattle.decision.specs.Lists.{Criteria}
@@ -62,7 +62,7 @@ moduleNumber limit =
 
 -- the number for a policy file of so many lists
 abbrev pub fileNumber : ℕ → ℕ
-fileNumber count = policy.numberOf (fileShown (fileWith count) (accepted (fileWith count)) (faultPlace (fileWith count)))
+fileNumber count = policy.numberOf (fileAnswer (fileWith count))
 
 -- the answer for the walk of a window whose page table has these entries
 unfoldable pub walkNumber : List ℕ → ℕ

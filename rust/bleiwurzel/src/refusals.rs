@@ -600,8 +600,8 @@ pub static TEXTS: [Text; 30] = [
              accepted there, the size in OsSinitData or the loading is wrong; else the file itself.",
             "Look at the place N of `refused 27 at N`, which counts from the file's first byte; in memory that is the policy file base in \
              OsSinitData plus N. If N is 0, this is no policy data file, or it was loaded elsewhere. If N is the file's size, a field is missing \
-             there: the file is cut off, or its list count (offset 35) is too large. If bytes follow the last list, the size in OsSinitData is too \
-             large.",
+             there: the file is cut off, its list count (offset 35) is too large, or the size of its last element is too small. If bytes follow the last \
+             list, the size in OsSinitData is too large, or the list count too small.",
             "If the file itself is wrong, compare its checksum with the store's (`sha256sum FILE`). If they differ, copy it again; else hand the place, \
              the field and its value to the builder.",
         ],

@@ -1,5 +1,5 @@
 -- `first_list` meets its contract: one law for each answer.
-use Rattle.policy_reader.proofs.ListNumbers.{list-none, list-unsigned, list-signed, elements-fits, signing-fits, key-fits, signature-fits}
+use Rattle.policy_reader.proofs.ListNumbers.{answers-none, answers-unsigned, answers-signed, elements-offset-fits, signing-offset-fits, key-offset-fits, signature-offset-fits}
 use borrow.Author.Needs.{needs}
 use Rattle.policy_reader.proofs.at_offset.first_list.Statement.{statement}
 use Rattle.policy_reader.proofs.at_offset.first_list.Tie as tie
@@ -14,7 +14,7 @@ enum-told : tie.Need-enum-told
 enum-told c = search needs
 
 returns : tie.Need-returns
-returns c = search (needs, list-none)
+returns c = search (needs, answers-none)
 
 number-requires : tie.Need-number-requires
 number-requires c κs = search needs
@@ -23,13 +23,13 @@ number-requires-2 : tie.Need-number-requires-2
 number-requires-2 c κs = search needs
 
 add-elements : tie.Need-add-elements
-add-elements c = record { fits = search (needs, elements-fits) }
+add-elements c = record { fits = search (needs, elements-offset-fits) }
 
 number-requires-3 : tie.Need-number-requires-3
 number-requires-3 c κs = search needs
 
 returns-2 : tie.Need-returns-2
-returns-2 c = search (needs, list-unsigned)
+returns-2 c = search (needs, answers-unsigned)
 
 add-end : tie.Need-add-end
 add-end c = search needs
@@ -41,19 +41,19 @@ number-requires-4 : tie.Need-number-requires-4
 number-requires-4 c κs = search needs
 
 add-key : tie.Need-add-key
-add-key c = record { fits = search (needs, signing-fits) }
+add-key c = record { fits = search (needs, signing-offset-fits) }
 
 add-key-2 : tie.Need-add-key-2
-add-key-2 c = record { fits = search (needs, key-fits) }
+add-key-2 c = record { fits = search (needs, key-offset-fits) }
 
 number-requires-5 : tie.Need-number-requires-5
 number-requires-5 c κs = search needs
 
 add-t13 : tie.Need-add-t13
-add-t13 c = record { fits = search (needs, signature-fits) }
+add-t13 c = record { fits = search (needs, signature-offset-fits) }
 
 returns-3 : tie.Need-returns-3
-returns-3 c = search (needs, list-signed)
+returns-3 c = search (needs, answers-signed)
 
 pub first-list-spec : {M : Type 1} → statement M
 first-list-spec =

@@ -35,8 +35,8 @@ part-launch-extent-end c = search needs
 launch-extent-requires : tie.Need-launch-extent-requires
 launch-extent-requires c κs = search needs
 
-behind-requires : tie.Need-behind-requires
-behind-requires c κs = search (needs, part-fits)
+further-requires : tie.Need-further-requires
+further-requires c κs = search (needs, part-fits)
 
 returns-4 : tie.Need-returns-4
 returns-4 c = search (needs, element-launch)
@@ -50,8 +50,8 @@ part-digests-extent-end c = search needs
 digests-extent-requires : tie.Need-digests-extent-requires
 digests-extent-requires c κs = search needs
 
-behind-requires-2 : tie.Need-behind-requires-2
-behind-requires-2 c κs = search (needs, part-fits)
+further-requires-2 : tie.Need-further-requires-2
+further-requires-2 c κs = search (needs, part-fits)
 
 returns-5 : tie.Need-returns-5
 returns-5 c = search (needs, element-stm)
@@ -73,11 +73,11 @@ first-extent-spec =
     part-launch-extent-start
     part-launch-extent-end
     launch-extent-requires
-    behind-requires
+    further-requires
     returns-4
     part-digests-extent-start
     part-digests-extent-end
     digests-extent-requires
-    behind-requires-2
+    further-requires-2
     returns-5
     returns-6)

@@ -41,8 +41,8 @@ part-digests-extent-end c = search needs
 digests-extent-requires : tie.Need-digests-extent-requires
 digests-extent-requires c κs = search needs
 
-behind-requires : tie.Need-behind-requires
-behind-requires c κs = search (needs, reserved-fits, rest-fits)
+further-requires : tie.Need-further-requires
+further-requires c κs = search (needs, reserved-fits, rest-fits)
 
 returns-3 : tie.Need-returns-3
 returns-3 c = search (needs, launch-digests)
@@ -63,5 +63,5 @@ launch-extent-spec =
     part-digests-extent-start
     part-digests-extent-end
     digests-extent-requires
-    behind-requires
+    further-requires
     returns-3)

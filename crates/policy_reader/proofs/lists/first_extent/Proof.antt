@@ -95,8 +95,8 @@ part-signed-extent-end c = search needs
 signed-extent-requires : tie.Need-signed-extent-requires
 signed-extent-requires c κs = search needs
 
-behind-requires : tie.Need-behind-requires
-behind-requires c κs = search (needs, read-fits)
+further-requires : tie.Need-further-requires
+further-requires c κs = search (needs, read-fits)
 
 returns-8 : tie.Need-returns-8
 returns-8 c = search (needs, list-signed)
@@ -138,6 +138,6 @@ first-extent-spec =
     part-signed-extent-start
     part-signed-extent-end
     signed-extent-requires
-    behind-requires
+    further-requires
     returns-8
     returns-9)

@@ -83,12 +83,12 @@ module _ (t rest : List ℕ) (start size type control : ℕ) where
   shown-unjudged (Grammar.other b) h nl ns nc = rw (ne-eqb type customType nc)
 
 -- an element that stands at the front
-pub record AtFront (t : List ℕ) (size : ℕ) (e : Element) : Type 0 where
+pub record ElementAtFront (t : List ℕ) (size : ℕ) (e : Element) : Type 0 where
   pub valid : ValidElement e
   pub sized : e .size ≡ size
   pub type-at : drop 4 t ≡ bytes 4 (e .type) ++ (bytes 4 (e .control) ++ (bodyBytes (e .body) ++ drop size t))
 
-at-front : (t : List ℕ) (size : ℕ) (e : Element) → ValidElement e × (length (elementBytes e) ≡ size) × (elementBytes e ++ drop size t ≡ t) → AtFront t size e
+at-front : (t : List ℕ) (size : ℕ) (e : Element) → ValidElement e × (length (elementBytes e) ≡ size) × (elementBytes e ++ drop size t ≡ t) → ElementAtFront t size e
 unfolding bytes
 at-front t size e (v, l, m) = record { valid = v; sized = v .sized ∙ l; type-at = sym (ap (drop 4) m) }
 
@@ -96,8 +96,8 @@ module _ (t : List ℕ) (start : ℕ) (b : (i : ℕ) → Fits w8 (getD t i 0)) (
   abbrev shown : ElementAnswer
   shown = elementShown start (valueOf (Decode.element t))
 
-  pub element-none : (p : ℕ) → w ≡ Fault p → Refused ≡ shown
-  element-none p q = rw (fault-read (read Layout.element t) p (sym ew ∙ q))
+  pub answers-none : (p : ℕ) → w ≡ Fault p → Refused ≡ shown
+  answers-none p q = rw (fault-read (read Layout.element t) p (sym ew ∙ q))
 
   module _ (size : ℕ) (qw : w ≡ Size size) where
     there : (e : Element) × (Decode.element t ≡ value e size)
@@ -106,7 +106,7 @@ module _ (t : List ℕ) (start : ℕ) (b : (i : ℕ) → Fits w8 (getD t i 0)) (
     abbrev e : Element
     e = there .0
 
-    front : AtFront t size e
+    front : ElementAtFront t size e
     front = at-front t size e (reads-sound elementBytes ValidElement Layout.element element-sound t e size (λ i. b i .fits) (there .1))
 
     follows : drop 12 t ≡ bodyBytes (e .body) ++ drop size t
@@ -127,14 +127,14 @@ module _ (t : List ℕ) (start : ℕ) (b : (i : ℕ) → Fits w8 (getD t i 0)) (
       valid-body : ValidBody kind (e .body)
       valid-body = rw kind-is (front .valid .body-valid)
 
-      pub element-launch : kind ≡ launchType → (m v a n : ℕ) → m ≡ numberAt t 12 1 → v ≡ numberAt t 13 1 → a ≡ numberAt t 14 2 → n ≡ numberAt t 16 2 → Launch start size control m v a n ≡ shown
-      element-launch q m v a n em ev ea en = shown-launch t (drop size t) start size kind control (e .body) valid-body follows q m v a n em ev ea en ∙ is
+      pub answers-launch : kind ≡ launchType → (m v a n : ℕ) → m ≡ numberAt t 12 1 → v ≡ numberAt t 13 1 → a ≡ numberAt t 14 2 → n ≡ numberAt t 16 2 → Launch start size control m v a n ≡ shown
+      answers-launch q m v a n em ev ea en = shown-launch t (drop size t) start size kind control (e .body) valid-body follows q m v a n em ev ea en ∙ is
 
-      pub element-stm : kind ≡ stmType → (a n : ℕ) → a ≡ numberAt t 12 2 → n ≡ numberAt t 14 2 → Stm start size control a n ≡ shown
-      element-stm q a n ea en = shown-stm t (drop size t) start size kind control (e .body) valid-body follows q a n ea en ∙ is
+      pub answers-stm : kind ≡ stmType → (a n : ℕ) → a ≡ numberAt t 12 2 → n ≡ numberAt t 14 2 → Stm start size control a n ≡ shown
+      answers-stm q a n ea en = shown-stm t (drop size t) start size kind control (e .body) valid-body follows q a n ea en ∙ is
 
-      pub element-custom : kind ≡ customType → Custom start size control ≡ shown
-      element-custom q = shown-custom t (drop size t) start size kind control (e .body) valid-body q ∙ is
+      pub answers-custom : kind ≡ customType → Custom start size control ≡ shown
+      answers-custom q = shown-custom t (drop size t) start size kind control (e .body) valid-body q ∙ is
 
-      pub element-unjudged : (kind ≡ launchType → ⊥) → (kind ≡ stmType → ⊥) → (kind ≡ customType → ⊥) → Unjudged start size kind control ≡ shown
-      element-unjudged nl ns nc = shown-unjudged t (drop size t) start size kind control (e .body) valid-body nl ns nc ∙ is
+      pub answers-unjudged : (kind ≡ launchType → ⊥) → (kind ≡ stmType → ⊥) → (kind ≡ customType → ⊥) → Unjudged start size kind control ≡ shown
+      answers-unjudged nl ns nc = shown-unjudged t (drop size t) start size kind control (e .body) valid-body nl ns nc ∙ is

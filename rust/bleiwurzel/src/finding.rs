@@ -28,14 +28,23 @@ pub struct Finding {
     pub found: String,
     /// More of the same, a line each: the entries of a list, or the reason of each policy list or region.
     pub notes: Vec<String>,
-    /// Of 27 the bytes of the field in the policy file, from the proved place on and as far as there are any; of other numbers none.
-    pub bytes: Option<Range<u32>>,
+    /// Of 27 the field of the policy file at the proved place; of other numbers none.
+    pub field: Option<Field>,
+}
+
+/// A field of a policy file.
+#[derive(Clone, Debug, PartialEq, Eq)]
+pub struct Field {
+    /// What it is called, as `the key size of list 0`.
+    pub name: String,
+    /// Its bytes in the file, as far as there are any.
+    pub bytes: Range<u32>,
 }
 
 impl Finding {
     /// Whether it speaks of this refusal: of the same number, and of 27 with the same place.
     fn is_of(&self, refusal: Refusal) -> bool {
-        let begins = self.bytes.as_ref().map_or(true, |bytes| bytes.start == refusal.place);
+        let begins = self.field.as_ref().map_or(true, |field| field.bytes.start == refusal.place);
         self.number == refusal.number && begins
     }
 
@@ -135,7 +144,7 @@ fn noted<T>(
     found: impl Into<String>,
     notes: Vec<String>,
 ) -> Step<T> {
-    Err(Finding { number, place: place.into(), expected: expected.into(), found: found.into(), notes, bytes: None })
+    Err(Finding { number, place: place.into(), expected: expected.into(), found: found.into(), notes, field: None })
 }
 
 /// Fails with this number where the condition does not hold.

@@ -7,7 +7,8 @@ mod json;
 #[path = "common/tool.rs"]
 mod tool;
 
-use bleiwurzel::{finding, policy, Refusal, MOST_PAGES};
+use bleiwurzel::finding::{self, Field};
+use bleiwurzel::{policy, Refusal, MOST_PAGES};
 use common::*;
 use json::is_json;
 use tool::*;
@@ -18,7 +19,7 @@ fn said(file: &[u8], place: &str, expected: &str, found: &str, length: u32) {
     let finding = finding::find_in_policy(refusal, file).expect("a finding");
     let said = [&finding.place, &finding.expected, &finding.found].map(String::as_str);
     assert_eq!(said, [place, expected, found]);
-    assert_eq!(finding.bytes.map(|bytes| bytes.end - bytes.start), Some(length), "{place}");
+    assert_eq!(finding.field.map(|field| field.bytes.end - field.bytes.start), Some(length), "{place}");
 }
 
 /// A file of one list with a launch element of one digest, with a number of it changed, up to an end.
@@ -115,7 +116,7 @@ fn a_field_in_memory() {
     let finding =
         finding::find(Refusal { number: 27, place: 36 }, &image.parts(), &image.platform, MOST_PAGES).expect("a finding");
     assert_eq!(finding.place, format!("the version of list 0 (policy file offset 36, 0x24, physical {address:#x})"));
-    assert_eq!(finding.bytes, Some(36..38));
+    assert_eq!(finding.field, Some(Field { name: "the version of list 0".to_string(), bytes: 36..38 }));
     for refusal in [Refusal { number: 27, place: 38 }, Refusal { number: 28, place: 0 }] {
         assert_eq!(finding::find(refusal, &image.parts(), &image.platform, MOST_PAGES), None, "{refusal:?}");
     }
@@ -153,8 +154,9 @@ What to do at the rack
 ";
     assert!(text.starts_with(begin), "{text}");
     let begin = "{\"answer\": \"refused\", \"number\": 27, \"place\": 38, \"name\": \"policy grammar\", ";
-    let finding = "\"finding\": {\"where\": \"the signature algorithm of list 0 (file offset 38, 0x26)\", \"expected\": \"0x0010 (none) or 0x0014 \
-                   (RSASSA)\", \"found\": \"0x0015\", \"notes\": []}";
+    let finding = "\"finding\": {\"where\": \"the signature algorithm of list 0 (file offset 38, 0x26)\", \"field\": {\"name\": \"the signature \
+                   algorithm of list 0\", \"offset\": 38, \"length\": 2}, \"expected\": \"0x0010 (none) or 0x0014 (RSASSA)\", \"found\": \"0x0015\", \
+                   \"notes\": []}";
     assert!(json.starts_with(begin) && json.contains(finding), "{json}");
 }
 

@@ -69,7 +69,7 @@ fn outside(dpr: (u64, u64), low: (u64, u64), page: u64, expected: &str, notes: &
     );
     let found = format!("page {:#x} to {:#x}", 0x103000 + linear, 0x103fff + linear);
     let notes = notes.iter().map(|note| note.to_string()).collect();
-    assert_eq!(finding, Finding { number: 20, place, expected: expected.to_string(), found, notes, bytes: None });
+    assert_eq!(finding, Finding { number: 20, place, expected: expected.to_string(), found, notes, field: None });
 }
 
 /// All three regions are named.
@@ -337,7 +337,7 @@ fn what_is_expected_of_a_list() {
     let found = "1 in the file, and none like that".to_string();
     let place = "the lists of the policy file, counted from 0".to_string();
     let notes = vec![format!("list 0: {UNVERIFIED}")];
-    assert_eq!(finding, Finding { number: 29, place, expected, found, notes, bytes: None });
+    assert_eq!(finding, Finding { number: 29, place, expected, found, notes, field: None });
 }
 
 /// The times of the STM image's digest, of the check and of the finding, which take turns: the best of three each.

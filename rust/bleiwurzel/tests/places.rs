@@ -22,7 +22,7 @@ fn hold(name: impl Fn() -> String, file: &[u8]) -> Option<u32> {
     let refusal = refusal?;
     let found = finding::find_in_policy(refusal, file).unwrap_or_else(|| panic!("{}: no finding", name()));
     let field = (refusal.number == 27).then_some(refusal.place);
-    assert_eq!(found.bytes.map(|bytes| bytes.start), field, "{}: {}", name(), found.place);
+    assert_eq!(found.field.map(|field| field.bytes.start), field, "{}: {}", name(), found.place);
     field
 }
 

@@ -24,7 +24,7 @@ pub fn run(words: Vec<OsString>) -> Result<Said, Misuse> {
             if let Some(found) = &mut found {
                 found.notes.extend(record_hint(&file.bytes));
             }
-            let field = found.as_ref().and_then(|found| found.bytes.as_ref());
+            let field = found.as_ref().and_then(|found| found.field.as_ref()).map(|field| &field.bytes);
             let lines = field.map(|field| dump::around(&file.bytes, &(field.start as usize..field.end as usize)));
             report::refused_in(refusal, found.as_ref(), &lines.unwrap_or_default(), HELP, json)
         }

@@ -3,7 +3,7 @@
 use super::json::{hex, texts, Json};
 use super::wrap::{points, wrapped};
 use super::{Said, NO, YES};
-use bleiwurzel::finding::Finding;
+use bleiwurzel::finding::{Field, Finding};
 use bleiwurzel::refusals::Text;
 use bleiwurzel::text::{counted, digits};
 use bleiwurzel::{Permission, Refusal, PAGE_SIZE};
@@ -100,11 +100,20 @@ fn refused_text(refusal: Refusal, finding: Option<&Finding>, lines: &str, comman
     text
 }
 
+fn field_json(field: &Field) -> Json {
+    Json::Object(vec![
+        ("name", Json::from(field.name.as_str())),
+        ("offset", Json::from(field.bytes.start)),
+        ("length", Json::from(field.bytes.end - field.bytes.start)),
+    ])
+}
+
 fn refused_json(refusal: Refusal, finding: Option<&Finding>, command: &str) -> Json {
     let about = refusal.text();
     let found = finding.map_or(Json::Null, |finding| {
         Json::Object(vec![
             ("where", Json::from(finding.place.as_str())),
+            ("field", finding.field.as_ref().map_or(Json::Null, field_json)),
             ("expected", Json::from(finding.expected.as_str())),
             ("found", Json::from(finding.found.as_str())),
             ("notes", texts(&finding.notes)),

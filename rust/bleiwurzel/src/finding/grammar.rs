@@ -2,7 +2,7 @@
 //! what is found. The fields are walked in file order up to the place. What stands before it is right, as the reader has found, so that nothing
 //! is judged here.
 
-use super::{bytes, counted, need, number, spaced, Finding, Length, Step};
+use super::{bytes, counted, need, number, spaced, Field, Finding, Length, Step};
 use crate::policy::{self, Element, List};
 use crate::PLACED;
 use std::ops::Range;
@@ -64,8 +64,8 @@ struct Walk<'a> {
 
 impl Walk<'_> {
     /// What is said of the field of these bytes.
-    fn finding(&self, field: Range<usize>, name: &str, (expected, found): (String, String)) -> Finding {
-        let at = field.start;
+    fn finding(&self, range: Range<usize>, name: &str, (expected, found): (String, String)) -> Finding {
+        let at = range.start;
         let place = match self.file.base {
             None => format!("{name} (file offset {at}, {at:#x})"),
             Some(base) => {
@@ -73,7 +73,8 @@ impl Walk<'_> {
                 format!("{name} (policy file offset {at}, {at:#x}, physical {address:#x})")
             }
         };
-        Finding { number: PLACED, place, expected, found, notes: Vec::new(), bytes: Some(field.start as u32..field.end as u32) }
+        let field = Field { name: name.to_string(), bytes: at as u32..range.end as u32 };
+        Finding { number: PLACED, place, expected, found, notes: Vec::new(), field: Some(field) }
     }
 
     /// Bytes that are always the same, and end before the lists.

@@ -76,7 +76,7 @@ fn first_extent(t: &[u8]) -> Extent
     Extent::Size(size)
 }
 
-// The element that stands at `at` in t.
+// The element that stands at `at` in t. It is handed all of t, so that a loop goes on by an offset and makes no slice for each element.
 pub(crate) fn element_extent(t: &[u8], at: usize) -> Extent
     requires { ⌜ at ≤ length (now t) ⌝ }
     ensures { λ r. ⌜ r ≡ extentOf (read Layout.element (drop at (now (t .entry)))) ⌝ }

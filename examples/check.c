@@ -107,7 +107,7 @@ static void build_policy(uint16_t list_version)
 
 static void ask(void)
 {
-    uint64_t pages[BLEIWURZEL_MOST_PAGES];
+    static uint64_t pages[BLEIWURZEL_MOST_PAGES]; /* too large for a small stack */
     struct bleiwurzel_answer a = bleiwurzel_launch(window, sizeof window, heap, sizeof heap, sinit, sizeof sinit, record, sizeof record,
                                                    NULL, 0 /* no STM image */, &platform, pages, BLEIWURZEL_MOST_PAGES);
     if (a.number == BLEIWURZEL_POLICY_GRAMMAR) {

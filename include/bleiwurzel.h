@@ -27,7 +27,7 @@ extern "C" {
 enum bleiwurzel_number {
     /* The launch is permitted. */
     BLEIWURZEL_PERMITTED = 0,
-    /* The window base is no multiple of 4096, the window is over 32 MiB, the heap is over 1 MiB, the STM image is over 16 MiB, or base plus
+    /* The window base is no multiple of 4096, the window is over 128 MiB, the heap is over 1 MiB, the STM image is over 16 MiB, or base plus
      * size of window, heap or DPR is over 2^52. */
     BLEIWURZEL_LIMITS = 1,
     /* BiosData, OsMleData and OsSinitData do not fit into the heap, one behind the other. */
@@ -50,7 +50,7 @@ enum bleiwurzel_number {
     BLEIWURZEL_CHIPSET = 10,
     /* The version of OsSinitData is above the one that the SINIT module knows. */
     BLEIWURZEL_OSSINITDATA_VERSION = 11,
-    /* MLE Size is 0, no multiple of 4096, or over 4096 pages. */
+    /* MLE Size is 0, no multiple of 4096, or over 16384 pages. */
     BLEIWURZEL_MLE_SIZE = 12,
     /* The page list that the caller lends has fewer places than the image has pages. */
     BLEIWURZEL_PAGE_LIST = 13,
@@ -62,7 +62,7 @@ enum bleiwurzel_number {
     BLEIWURZEL_NOT_ASCENDING = 16,
     /* A table or a page touches 0xA0000 to 0xFFFFF, the heap or the SINIT module. */
     BLEIWURZEL_FORBIDDEN_RANGE = 17,
-    /* The tables take a seventeenth page, the pointer table and the directories counted. */
+    /* The tables take a 41st page, the pointer table and the directories counted. */
     BLEIWURZEL_TABLE_PAGES = 18,
     /* The image's linear pages do not follow one another: there is a gap. */
     BLEIWURZEL_LINEAR_GAP = 19,
@@ -94,11 +94,17 @@ enum bleiwurzel_number {
 #define BLEIWURZEL_NO_LIST_INDEX 255u
 
 /* The most pages that an image can have: with as many places in the page list, 13 is never answered. */
-#define BLEIWURZEL_MOST_PAGES 4096u
+#define BLEIWURZEL_MOST_PAGES 16384u
+
+/* The most pages of tables, the table base and the directories counted. */
+#define BLEIWURZEL_MOST_TABLES 40u
+
+/* How many places the programs for captures lend: with as many, a capture gets the answer that they print. */
+#define BLEIWURZEL_CAPTURE_PLACES 4096u
 
 /* Bytes: the most of a memory window, of a TXT heap, of an STM image and of a capture file, the least and the most of a policy file, those of a
  * policy record. */
-#define BLEIWURZEL_MOST_WINDOW (32u << 20)
+#define BLEIWURZEL_MOST_WINDOW (128u << 20)
 #define BLEIWURZEL_MOST_HEAP (1u << 20)
 #define BLEIWURZEL_MOST_STM (16u << 20)
 #define BLEIWURZEL_MOST_CAPTURE 65536u

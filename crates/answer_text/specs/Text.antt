@@ -90,7 +90,8 @@ shownPages a places = cond (eqb (a .number) 0) (take (a .pages) places) []
 unfoldable pub output : Answer → List ℕ → List ℕ
 output a places = firstLine a ++ pageLines (shownPages a places)
 
--- "The program lends 4,096 places for pages." For the output it lends 48 bytes for the first line, and 17 for the line of each page: OUTPUT in src/lib.rt
+-- "The capture program still lends 4,096 places": how many pages an image may have is another number. For the output it lends 48 bytes for the first
+-- line, and 17 for the line of each page: OUTPUT in src/lib.rt
 abbrev pub lentPlaces : ℕ
 lentPlaces = 4096
 

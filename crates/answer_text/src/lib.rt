@@ -22,7 +22,7 @@ const FIRST_LINE: usize = 48;
 
 const PAGE_LINE: usize = 17;
 
-// What a program lends: places for pages, and room for the text of the answer, the first line and a line for each page.
+// What a program for captures lends: places for pages, and room for the text of the answer, the first line and a line for each page.
 pub const PLACES: usize = 4096;
 
 pub const OUTPUT: usize = FIRST_LINE + PAGE_LINE * PLACES;

@@ -59,8 +59,9 @@ memoryFrom heap sinit p o =
 abbrev pub chipsetOf : Platform → Chipset
 chipsetOf p = record { vendor = p .vendor; device = p .device; revision = p .revision }
 
+-- at most "a window of 128 MiB"
 abbrev pub mostWindow : ℕ
-mostWindow = 32 * 2 ^ 20
+mostWindow = 128 * 2 ^ 20
 
 abbrev pub mostHeap : ℕ
 mostHeap = 2 ^ 20
@@ -68,8 +69,8 @@ mostHeap = 2 ^ 20
 abbrev pub mostStm : ℕ
 mostStm = 16 * 2 ^ 20
 
--- 1. "window base no multiple of 4096; window over 32 MiB; heap over 1 MiB; base plus size of window, heap or DPR over 2^52"; of the STM image "Over
--- 16 MiB is 1"
+-- 1. "window base no multiple of 4096; window over" the most; "heap over 1 MiB; base plus size of window, heap or DPR over 2^52"; of the STM image
+-- "Over 16 MiB is 1"
 unfoldable pub platformTests : List ℕ → List ℕ → List ℕ → Platform → List Bool
 platformTests window heap stm p =
     eqb (p .«window_base» % pageSize) 0

@@ -22,7 +22,7 @@ ghost use Rattle.launch.specs.Rules.{inputOf, platformTests, memoryFrom,
 ghost use Rattle.launch.specs.Inner.{imageStage, pageStage, findStage};
 
 // The most bytes of a window, of a heap and of an STM image.
-const MOST_WINDOW: usize = 0x200_0000;
+const MOST_WINDOW: usize = 0x800_0000;
 
 const MOST_HEAP: usize = 0x10_0000;
 

@@ -10,14 +10,15 @@ use Rattle.rules.specs.Rules.{all}
 use Rattle.mle.specs.declared.Image.{Image}
 use Rattle.mle.specs.Image.{addressAt, bytesAt}
 
--- 12. "MLE Size 0, no multiple of 4096, or over 4,096 pages"
+-- an image has at most "16,384 pages"
 abbrev pub mostPages : ℕ
-mostPages = 4096
+mostPages = 16384
 
 -- "N is MLE Size divided by 4096"
 abbrev pub pagesOf : ℕ → ℕ
 pagesOf mleSize = mleSize / pageSize
 
+-- 12. "MLE Size 0, no multiple of 4096, or over" the most pages
 unfoldable pub sizeTests : ℕ → List Bool
 sizeTests mleSize = ltb 0 mleSize ∷ eqb (mleSize % pageSize) 0 ∷ leb (pagesOf mleSize) mostPages ∷ []
 

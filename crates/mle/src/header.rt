@@ -9,7 +9,7 @@ ghost use mathlib.Core.Path.{_≡_};
 ghost use Rattle.rules.specs.Rules.{all};
 ghost use Rattle.mle.specs.Header.{sizeTests, mapped, placeTests, fieldTests, headerTests};
 
-const MOST_PAGES: u64 = 4096;
+const MOST_PAGES: u64 = 16384;
 
 const HEADER_SIZE: u64 = 52;
 

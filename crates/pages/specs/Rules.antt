@@ -15,9 +15,9 @@ use Rattle.pages.specs.Entry.{addressOf, reservedClear}
 use Rattle.pages.specs.Memory.{pageOf, windowOf, regions, allowed, protected, holding}
 use Rattle.pages.specs.Tables.{Found, found}
 
--- "a seventeenth table page, the base and directories counted"
+-- at most "40 tables in all", "the base and directories counted"
 abbrev pub mostTables : ℕ
-mostTables = 16
+mostTables = 40
 
 -- what was found so far: the last address, how many tables, the first linear page and how many pages, and the regions that hold all these pages
 pub record State : Type 0 where

@@ -24,7 +24,7 @@ ghost use Rattle.pages.specs.Tables.{entries, entryAt, levelSize, foundO
 ghost use Rattle.pages.specs.Rules.{mostTables, afterTable, afterPage, after, follows, baseRules, ownRules, entryRules, walkOf};
 ghost use Rattle.pages.specs.Inner.{stateOf, pagesTo, Ordered, Above, Leads, Room, Tried};
 
-const MOST_TABLES: u64 = 16;
+const MOST_TABLES: u64 = 40;
 
 const DIRECTORIES: u64 = POINTERS * ENTRIES;
 

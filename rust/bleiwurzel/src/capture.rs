@@ -11,6 +11,8 @@ pub const VERSION: u16 = 1;
 /// The bytes before the parts.
 pub const HEAD: usize = 75;
 pub const MOST: usize = 65_536;
+/// How many places for pages the programs for captures lend, which is more than a capture has pages.
+pub const PLACES: usize = 4096;
 /// The names of the four parts, and where in the head their lengths stand.
 pub const PARTS: [(&str, usize); 4] = [("window", 59), ("heap", 63), ("SINIT module", 67), ("policy record", 71)];
 

@@ -102,9 +102,18 @@ pub fn first(parts: &Parts, platform: &Platform, places: usize) -> Option<Findin
 /// The same for a capture.
 pub fn first_in_capture(bytes: &[u8], places: usize) -> Option<Finding> {
     match capture::split(bytes) {
-        Ok((parts, platform)) => first(&parts, &platform, places),
+        Ok((parts, platform)) => first(&parts, &platform, places).map(|finding| of_capture(finding, places)),
         Err(fault) => fail::<()>(30, fault.place, fault.expected, fault.found).err(),
     }
+}
+
+/// The same, where a page list that is too short for it would do for every capture: then the image is not in this one.
+fn of_capture(mut finding: Finding, places: usize) -> Finding {
+    if finding.number == 13 && places >= capture::MOST / PAGE_SIZE as usize {
+        let most = capture::MOST;
+        finding.notes.push(format!("a capture has at most {most} bytes, so this one does not hold that many pages"));
+    }
+    finding
 }
 
 fn all(parts: &Parts, at_hand: &AtHand, platform: &Platform, places: usize) -> Step<()> {
@@ -212,13 +221,16 @@ fn page_count(asked: &heap::OsSinitData, places: usize) -> Step<u64> {
     need(size % PAGE_SIZE == 0, 12, place.as_str(), on_a_page(), found.as_str())?;
     let count = size / PAGE_SIZE;
     let expected = format!("at most {MOST_PAGES} pages, {} bytes", MOST_PAGES as u64 * PAGE_SIZE);
-    need(count <= MOST_PAGES as u64, 12, place, expected, format!("{found}, {count} pages"))?;
-    need(
-        count <= places as u64,
-        13,
-        "the page list of the calling program",
-        format!("at least {}, as many as MLE Size has pages", counted(count, "place")),
-        counted(places as u64, "place"),
-    )?;
+    need(count <= MOST_PAGES as u64, 12, place.as_str(), expected, format!("{found}, {count} pages"))?;
+    if count > places as u64 {
+        let expected = format!("at least {}, as many as MLE Size has pages", counted(count, "place"));
+        return noted(
+            13,
+            "the page list that was lent",
+            expected,
+            counted(places as u64, "place"),
+            vec![format!("{place}: {found}")],
+        );
+    }
     Ok(count)
 }

@@ -121,9 +121,9 @@ pub static TEXTS: [Text; 30] = [
     Text {
         number: 1,
         name: "limits",
-        meaning: "The window base is no multiple of 4096, the window is over 32 MiB, the heap is over 1 MiB, the STM image is over 16 MiB, or \
+        meaning: "The window base is no multiple of 4096, the window is over 128 MiB, the heap is over 1 MiB, the STM image is over 16 MiB, or \
             base plus size of window, heap or DPR is over 2^52.",
-        rule: "Window base mod 4096 = 0; window at most 33,554,432 bytes; heap at most 1,048,576 bytes; STM image at most 16,777,216 bytes, \
+        rule: "Window base mod 4096 = 0; window at most 134,217,728 bytes; heap at most 1,048,576 bytes; STM image at most 16,777,216 bytes, \
             also where no list asks for it; window base + window length, heap base + heap length and DPR base + DPR size each at most 2^52, \
             added without wrapping, the DPR also at size 0.",
         causes: &[
@@ -139,7 +139,7 @@ pub static TEXTS: [Text; 30] = [
             "DPR base is the DPR's top minus its size; with no DPR give 0 for both.",
         ],
         builder: &[
-            "Place image, page tables and policy file so that one window of at most 32 MiB holds all of them.",
+            "Place image, page tables and policy file so that one window of at most 128 MiB holds all of them.",
             "Dump the window from a page boundary on.",
             "Hand over of an STM its static image alone: from the first byte of MSEG on as many bytes as StaticImageSize says, 32 bits at 2052 in \
              the STM's header.",
@@ -318,24 +318,31 @@ pub static TEXTS: [Text; 30] = [
     Text {
         number: 12,
         name: "MLE Size",
-        meaning: "MLE Size is 0, no multiple of 4096, or over 4096 pages.",
-        rule: "MLE Size, 64 bits at offset 16 in OsSinitData, is a multiple of 4096 from 4096 to 16,777,216.",
+        meaning: "MLE Size is 0, no multiple of 4096, or over 16384 pages.",
+        rule: "MLE Size, 64 bits at offset 16 in OsSinitData, is a multiple of 4096 from 4096 to 67,108,864.",
         causes: &[
             "The loader wrote the image file's length and not its length in whole pages.",
-            "The image is over 16 MiB.",
+            "The image is over 64 MiB.",
             "The loader did not fill in OsSinitData.",
         ],
         technician: &[concat!(not_at_the_rack!(), ". If MLE Size is 0, the loader did not get far enough: look at its log.")],
-        builder: &["Round MLE Size up to whole pages and map them; keep the measured image at or under 4,096 pages."],
+        builder: &["Round MLE Size up to whole pages and map them; keep the measured image at or under 16,384 pages."],
     },
     Text {
         number: 13,
         name: "page list",
         meaning: "The page list that the caller lends has fewer places than the image has pages.",
         rule: "N = MLE Size / 4096 is at most the number of places in the page list.",
-        causes: &["The calling program lends a short list. The tool itself lends 4,096 places, so it never answers 13."],
-        technician: &["This is a fault of the program that asked, not of the image. Ask again with `bleiwurzel check`."],
-        builder: &["In the calling program, lend 4,096 places, the most that an image can need."],
+        causes: &[
+            "The calling program lends a short list.",
+            "A capture whose MLE Size says over 4,096 pages: `launch-check` and `bleiwurzel check --capture` lend so many places, and no capture has \
+             room for more pages. It does not hold the whole image, or its MLE Size is wrong.",
+        ],
+        technician: &[
+            "Ask again with the parts of the image and not with a capture: for these `bleiwurzel check` lends 16,384 places, the most that an image \
+             can need, and never answers 13.",
+        ],
+        builder: &["In the calling program, lend 16,384 places."],
     },
     Text {
         number: 14,
@@ -370,7 +377,7 @@ pub static TEXTS: [Text; 30] = [
             "Compare the address that was found with the window. If the base itself is outside, the window base or the dump is wrong: dump again.",
             "Compare the window file's size with what was to be dumped.",
         ],
-        builder: &["Keep tables and image together in one window of at most 32 MiB, and have it dumped whole."],
+        builder: &["Keep tables and image together in one window of at most 128 MiB, and have it dumped whole."],
     },
     Text {
         number: 16,
@@ -408,12 +415,12 @@ pub static TEXTS: [Text; 30] = [
     Text {
         number: 18,
         name: "table pages",
-        meaning: "The tables take a seventeenth page, the pointer table and the directories counted.",
-        rule: "Pointer table, directories and page tables together are at most 16 pages; the entry that names the seventeenth is refused.",
+        meaning: "The tables take a 41st page, the pointer table and the directories counted.",
+        rule: "Pointer table, directories and page tables together are at most 40 pages; the entry that names the 41st is refused.",
         causes: &["The image is spread over many directories or page tables, most of them nearly empty.", "Tables from something else are mapped too."],
         technician: &[concat!(not_at_the_rack!(), ". Hand it to the image's builder.")],
         builder: &[
-            "4,096 pages need 8 page tables, or 9 where they begin in the middle of one, a directory (or two) and the pointer table. Map only \
+            "16,384 pages need 32 page tables, or 33 where they begin in the middle of one, a directory (or two) and the pointer table. Map only \
              the image, and from one linear address on.",
         ],
     },

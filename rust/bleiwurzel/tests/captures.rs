@@ -3,8 +3,8 @@
 mod common;
 
 use bleiwurzel::capture::Unfit;
-use bleiwurzel::{answer, answer_capture, capture, finding, MOST_PAGES};
-use common::{captures, hold_place, image, outputs, printed, put, top, Shape, UNTOUCHED};
+use bleiwurzel::{answer, answer_capture, capture, finding};
+use common::{captures, hold_place, image, outputs, printed, put, top, Shape, MLE_SIZE, PAGE, UNTOUCHED};
 
 fn untouched_after(pages: &[u64], count: u32) -> bool {
     pages[count as usize..].iter().all(|page| *page == UNTOUCHED)
@@ -17,7 +17,7 @@ fn every_capture_has_its_output() {
     assert!(captures.len() >= 500, "only {} captures", captures.len());
     assert_eq!(captures.len(), expected.len(), "as many captures as expected outputs");
     for (name, bytes) in captures {
-        let mut pages = vec![UNTOUCHED; MOST_PAGES];
+        let mut pages = vec![UNTOUCHED; capture::PLACES];
         let given = answer_capture(&bytes, &mut pages);
         assert_eq!(printed(&given, &pages), expected[&name], "{name}");
         assert!(untouched_after(&pages, given.pages), "{name}: a place past the pages was written");
@@ -31,12 +31,12 @@ fn every_capture_has_its_output() {
 #[test]
 fn the_parts_answer_as_the_capture_does() {
     for (name, bytes) in captures() {
-        let mut pages = vec![UNTOUCHED; MOST_PAGES];
+        let mut pages = vec![UNTOUCHED; capture::PLACES];
         let given = answer_capture(&bytes, &mut pages);
         match capture::split(&bytes) {
             Err(_) => assert_eq!(given.number, 30, "{name}"),
             Ok((parts, platform)) => {
-                let mut again = vec![UNTOUCHED; MOST_PAGES];
+                let mut again = vec![UNTOUCHED; capture::PLACES];
                 assert_eq!(answer(&parts, &platform, &mut again), given, "{name}");
                 assert_eq!(again, pages, "{name}");
                 assert_eq!(capture::make(&parts, &platform).as_deref(), Ok(&bytes[..]), "{name}");
@@ -48,10 +48,10 @@ fn the_parts_answer_as_the_capture_does() {
 #[test]
 fn the_finding_comes_to_the_same_number() {
     for (name, bytes) in captures() {
-        let given = answer_capture(&bytes, &mut vec![0; MOST_PAGES]);
-        let found = finding::first_in_capture(&bytes, MOST_PAGES);
+        let given = answer_capture(&bytes, &mut vec![0; capture::PLACES]);
+        let found = finding::first_in_capture(&bytes, capture::PLACES);
         assert_eq!(found.as_ref().map_or(0, |finding| finding.number), given.number, "{name}");
-        let of_answer = given.result().err().and_then(|refusal| finding::find_in_capture(refusal, &bytes, MOST_PAGES));
+        let of_answer = given.result().err().and_then(|refusal| finding::find_in_capture(refusal, &bytes, capture::PLACES));
         assert_eq!(of_answer, found, "{name}");
     }
 }
@@ -60,7 +60,7 @@ fn the_finding_comes_to_the_same_number() {
 fn the_digest_is_that_of_the_listed_pages() {
     let mut permitted = 0;
     for (name, bytes) in captures() {
-        let mut pages = vec![0; MOST_PAGES];
+        let mut pages = vec![0; capture::PLACES];
         let given = answer_capture(&bytes, &mut pages);
         if given.number != 0 {
             continue;
@@ -84,14 +84,39 @@ fn captures_of_65_536_bytes_and_one_more() {
     let whole = with_spare(65_536 - small);
     let mut bytes = capture::make(&whole.parts(), &whole.platform).expect("the largest capture");
     assert_eq!(bytes.len(), 65_536);
-    let number = |bytes: &[u8]| answer_capture(bytes, &mut vec![0; MOST_PAGES]).number;
-    let found = |bytes: &[u8]| finding::first_in_capture(bytes, MOST_PAGES).map_or(0, |finding| finding.number);
+    let number = |bytes: &[u8]| answer_capture(bytes, &mut vec![0; capture::PLACES]).number;
+    let found = |bytes: &[u8]| finding::first_in_capture(bytes, capture::PLACES).map_or(0, |finding| finding.number);
     assert_eq!((number(&bytes), found(&bytes)), (0, 0));
     let more = with_spare(65_536 - small + 1);
     assert_eq!(capture::make(&more.parts(), &more.platform), Err(Unfit::Long(65_537)));
     bytes.push(0);
     put(&mut bytes, 59, more.window.len() as u64, 4);
     assert_eq!((number(&bytes), found(&bytes)), (30, 30), "all lengths are right, but it is too long");
+}
+
+/// A capture is answered by the places that the caller lends: a larger MLE Size is 13, and 21 where there are enough, since the capture has two pages.
+#[test]
+fn mle_sizes_and_places() {
+    let mut image = image(&Shape::default());
+    let cases = [
+        (4096, 4096, 21),
+        (4097, 4096, 13),
+        (4097, 4097, 21),
+        (16_384, 4096, 13),
+        (16_384, 16_383, 13),
+        (16_384, 16_384, 21),
+        (16_385, 4096, 12),
+        (16_385, 16_385, 12),
+    ];
+    for (pages, places, number) in cases {
+        put(&mut image.heap, MLE_SIZE, (pages * PAGE) as u64, 8);
+        let bytes = capture::make(&image.parts(), &image.platform).expect("a capture");
+        let mut list = vec![UNTOUCHED; places];
+        let given = answer_capture(&bytes, &mut list).number;
+        let found = finding::first_in_capture(&bytes, places).map_or(0, |finding| finding.number);
+        assert_eq!((given, found), (number, number), "{pages} pages, {places} places");
+        assert!(untouched_after(&list, 0), "{pages} pages, {places} places");
+    }
 }
 
 /// A capture has no STM image, and is not made of parts that have one.
@@ -152,8 +177,8 @@ fn heads_and_lengths() {
     for (name, change, number) in cases {
         let mut bytes = good.clone();
         change(&mut bytes);
-        let found = finding::first_in_capture(&bytes, MOST_PAGES).map_or(0, |finding| finding.number);
-        let given = answer_capture(&bytes, &mut vec![0; MOST_PAGES]).number;
+        let found = finding::first_in_capture(&bytes, capture::PLACES).map_or(0, |finding| finding.number);
+        let given = answer_capture(&bytes, &mut vec![0; capture::PLACES]).number;
         assert_eq!((given, found), (number, number), "{name}");
     }
 }

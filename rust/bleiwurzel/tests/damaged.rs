@@ -3,7 +3,9 @@
 
 mod common;
 
-use bleiwurzel::{answer, answer_capture, capture, finding, policy, Answer, Platform, MOST_HEAP, MOST_PAGES, MOST_WINDOW};
+use bleiwurzel::{
+    answer, answer_capture, capture, finding, policy, Answer, Platform, MOST_HEAP, MOST_PAGES, MOST_TABLES, MOST_WINDOW,
+};
 use common::*;
 use plain_sha256::digest_in_parts;
 use std::collections::BTreeMap;
@@ -209,15 +211,16 @@ fn images() {
     damage_image("two pages, LIST", listed(&plain), 6000, 2, &mut counts);
     damage_image("one page", of(Shape { pages: 1, ..plain.clone() }), 1000, 3, &mut counts);
     damage_image("header at 4044", of(Shape { pages: 3, header: 4044, ..plain.clone() }), 1000, 4, &mut counts);
-    damage_image("16 tables", of(Shape { empty_tables: 13, ..plain.clone() }), 2000, 5, &mut counts);
+    damage_image("the most tables", of(Shape { empty_tables: MOST_TABLES - 3, ..plain.clone() }), 2000, 5, &mut counts);
     damage_image("two directories", of(Shape { pages: 40, first: 512 * 512 - 20, ..plain.clone() }), 2000, 6, &mut counts);
-    damage_image("a heap of 1 MiB", of(Shape { heap_spare: MOST_HEAP - 124, ..plain.clone() }), 1000, 7, &mut counts);
-    damage_image("a window of 32 MiB", of(Shape { spare: MOST_WINDOW - small, ..plain.clone() }), 1000, 8, &mut counts);
+    damage_image("the longest heap", of(Shape { heap_spare: MOST_HEAP - 124, ..plain.clone() }), 1000, 7, &mut counts);
+    damage_image("the longest window", of(Shape { spare: MOST_WINDOW - small, ..plain.clone() }), 1000, 8, &mut counts);
     damage_image("4096 pages", of(Shape { pages: 4096, ..plain.clone() }), 60, 9, &mut counts);
     damage_image("4096 pages, LIST", listed(&Shape { pages: 4096, first: 100, ..plain.clone() }), 40, 10, &mut counts);
+    damage_image("the most pages", of(Shape { pages: MOST_PAGES, first: 300, ..plain.clone() }), 20, 15, &mut counts);
     damage_image("two pages, LIST with STM elements", with_stm(&plain), 6000, 12, &mut counts);
     damage_image("three pages in two regions", in_two_regions(), 3000, 14, &mut counts);
-    assert_eq!(counts.values().sum::<usize>(), 29_100);
+    assert_eq!(counts.values().sum::<usize>(), 29_120);
     let met: Vec<u32> = counts.keys().copied().collect();
     let expected: Vec<u32> = (0..=29).filter(|number| *number != 13).collect();
     assert_eq!(met, expected, "every number but 13 is met: {counts:?}");
@@ -267,7 +270,7 @@ fn place_in_capture(dice: &mut Dice, capture: &[u8]) -> usize {
 #[test]
 fn captures() {
     let mut dice = Dice(11);
-    let mut pages = vec![UNTOUCHED; MOST_PAGES];
+    let mut pages = vec![UNTOUCHED; capture::PLACES];
     let mut turns = 0;
     for (name, mut bytes) in common::captures().into_iter().filter(|(_, bytes)| !bytes.is_empty()) {
         for turn in 0..25 {
@@ -278,7 +281,7 @@ fn captures() {
             }
             let name = format!("{name}, damage {turn}");
             let given = answer_capture(&bytes, &mut pages);
-            judge(&given, &pages, finding::first_in_capture(&bytes, MOST_PAGES), &name);
+            judge(&given, &pages, finding::first_in_capture(&bytes, capture::PLACES), &name);
             hold_place(&name, &given, capture::split(&bytes).ok());
             pages[..given.pages as usize].fill(UNTOUCHED);
             damage.repair(&mut bytes);
@@ -290,15 +293,15 @@ fn captures() {
 
 #[test]
 fn captures_cut_and_extended() {
-    let mut pages = vec![UNTOUCHED; MOST_PAGES];
+    let mut pages = vec![UNTOUCHED; capture::PLACES];
     for (name, mut bytes) in common::captures() {
         bytes.push(0);
         let given = answer_capture(&bytes, &mut pages);
-        judge(&given, &pages, finding::first_in_capture(&bytes, MOST_PAGES), &format!("{name} and a byte"));
+        judge(&given, &pages, finding::first_in_capture(&bytes, capture::PLACES), &format!("{name} and a byte"));
         for cut in [1, 2, 70, 75, 1000, 5000] {
             bytes.truncate(bytes.len().saturating_sub(cut));
             let given = answer_capture(&bytes, &mut pages);
-            judge(&given, &pages, finding::first_in_capture(&bytes, MOST_PAGES), &format!("{name} cut by {cut}"));
+            judge(&given, &pages, finding::first_in_capture(&bytes, capture::PLACES), &format!("{name} cut by {cut}"));
             pages[..given.pages as usize].fill(UNTOUCHED);
         }
     }

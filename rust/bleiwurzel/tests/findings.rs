@@ -25,7 +25,30 @@ fn found_in(file: &[u8]) -> Option<Finding> {
 
 fn found(name: &str) -> Finding {
     let bytes = std::fs::read(stored(name)).expect("a stored capture");
-    finding::first_in_capture(&bytes, MOST_PAGES).expect("a refusal")
+    finding::first_in_capture(&bytes, capture::PLACES).expect("a refusal")
+}
+
+/// More pages than a capture has room for: the finding says so, and the parts are lent places for all of them.
+#[test]
+fn more_pages_than_the_places_for_a_capture() {
+    let name = "12-pages-4097.cap";
+    let finding = found(name);
+    let expected = "at least 4097 places, as many as MLE Size has pages";
+    assert_eq!((finding.number, finding.expected.as_str(), finding.found.as_str()), (13, expected, "4096 places"));
+    let notes = [
+        "MLE Size, offset 16 in OsSinitData (heap offset 0x28): 16781312 (0x1001000)",
+        "a capture has at most 65536 bytes, so this one does not hold that many pages",
+    ];
+    assert_eq!(finding.notes, notes);
+    let bytes = std::fs::read(stored(name)).expect("a stored capture");
+    for (places, said) in [(15, 1), (16, 2)] {
+        assert_eq!(finding::first_in_capture(&bytes, places).map(|finding| finding.notes.len()), Some(said), "{places} places");
+    }
+    let ran = run(&["check", "--capture", &stored(name)]);
+    assert!(ran.status == REFUSED && ran.out.starts_with("refused 13, page list\n"), "{}", ran.out);
+    let words = written(&folder("more_pages_than_the_places"), &stored_image(name));
+    let ran = run_with(&["check"], &words, &[]);
+    assert!(ran.status == REFUSED && ran.out.starts_with("refused 21, "), "{}", ran.out);
 }
 
 /// Of an element with a wrong size, the size is named, which stands 4 bytes behind the type.
@@ -130,7 +153,7 @@ fn lengths_are_exact_where_they_are_known() {
     image.record.push(0);
     let whole = capture::make(&image.parts(), &image.platform).expect("a capture");
     assert_eq!(
-        finding::find_in_capture(refused(23), &whole, MOST_PAGES).map(|finding| finding.found),
+        finding::find_in_capture(refused(23), &whole, capture::PLACES).map(|finding| finding.found),
         Some("71 bytes".to_string())
     );
     let folder = folder("lengths_are_exact");
@@ -144,8 +167,8 @@ fn lengths_are_exact_where_they_are_known() {
 /// Every text of a finding about the stored captures, and about stored policy files that are cut off anywhere.
 fn all_texts() -> Vec<String> {
     let mut findings: Vec<Finding> =
-        captures().iter().filter_map(|(_, bytes)| finding::first_in_capture(bytes, MOST_PAGES)).collect();
-    findings.extend((0..=76).filter_map(|length| finding::first_in_capture(&captures()[0].1[..length], MOST_PAGES)));
+        captures().iter().filter_map(|(_, bytes)| finding::first_in_capture(bytes, capture::PLACES)).collect();
+    findings.extend((0..=76).filter_map(|length| finding::first_in_capture(&captures()[0].1[..length], capture::PLACES)));
     for name in ["three-0x201.data", "signed2048-0x200.data"] {
         let file = std::fs::read(top().join("crates/policy_show/data").join(name)).expect("a policy file");
         findings.extend((0..file.len()).filter_map(|length| found_in(&file[..length])));

@@ -70,9 +70,19 @@ const NUMBERS: &[Number] = &[
         macros: &["BLEIWURZEL_MOST_PAGES"],
         said: |n| vec![format!("or over {n} pages")],
     },
+    Number {
+        value: MOST_TABLES as u64,
+        rattle: &["MOST_TABLES", "mostTables"],
+        macros: &["BLEIWURZEL_MOST_TABLES"],
+        said: |n| vec![format!("The tables take a {}st page", n + 1)],
+    },
     // what the programs for captures lend, a number of their own: docs/DECISIONS.md
-    Number { value: 4096, rattle: &["PLACES", "lentPlaces"], macros: &[], said: nothing },
-    Number { value: MOST_TABLES as u64, rattle: &["MOST_TABLES", "mostTables"], macros: &[], said: nothing },
+    Number {
+        value: capture::PLACES as u64,
+        rattle: &["PLACES", "lentPlaces"],
+        macros: &["BLEIWURZEL_CAPTURE_PLACES"],
+        said: nothing,
+    },
     Number {
         value: RECORD_LENGTH as u64,
         rattle: &["RECORD_SIZE", "recordSize"],
@@ -247,5 +257,44 @@ fn the_comments_of_the_header_say_the_same_numbers() {
         for said in (number.said)(number.value) {
             assert!(text.contains(&said), "the header does not say: {said}");
         }
+    }
+}
+
+/// A number with a comma before each group of three digits.
+fn grouped(number: usize) -> String {
+    let digits = number.to_string();
+    let group = |(i, digit): (usize, char)| if i > 0 && (digits.len() - i) % 3 == 0 { vec![',', digit] } else { vec![digit] };
+    digits.chars().enumerate().flat_map(group).collect()
+}
+
+/// What people read of the limits of an image's size stands in several texts.
+#[test]
+fn the_texts_say_the_same_limits() {
+    let (window, image) = (MOST_WINDOW >> 20, (MOST_PAGES * PAGE_SIZE as usize) >> 20);
+    let (pages, places, tables) = (grouped(MOST_PAGES), grouped(capture::PLACES), MOST_TABLES);
+    let said = [
+        ("README.md", format!("| memory window | {window} MiB,")),
+        ("README.md", format!("| image | {pages} pages ({image} MiB),")),
+        ("README.md", format!("| page tables | {tables} pages in all,")),
+        ("README.md", format!("| capture file | {} bytes, {places} places for pages |", grouped(capture::MOST))),
+        ("docs/DIFFERENCES.md", format!("window at most {window} MiB,")),
+        ("docs/DIFFERENCES.md", format!("at most {pages} pages |")),
+        ("docs/DIFFERENCES.md", format!("at most {tables} table pages,")),
+        ("docs/REFUSALS.md", format!("window at most {} bytes;", grouped(MOST_WINDOW))),
+        ("docs/REFUSALS.md", format!("one window of at most {window} MiB holds all of them")),
+        ("docs/REFUSALS.md", format!("in one window of at most {window} MiB, and")),
+        ("docs/REFUSALS.md", format!("from {PAGE_SIZE} to {}.", grouped(MOST_PAGES * PAGE_SIZE as usize))),
+        ("docs/REFUSALS.md", format!("The image is over {image} MiB.")),
+        ("docs/REFUSALS.md", format!("at or under {pages} pages.")),
+        ("docs/REFUSALS.md", format!("MLE Size says over {places} pages:")),
+        ("docs/REFUSALS.md", format!("lends {pages} places, the most that an image can need")),
+        ("docs/REFUSALS.md", format!("lend {pages} places.")),
+        ("docs/REFUSALS.md", format!("at most {tables} pages; the entry that names the {}st is refused.", tables + 1)),
+        ("docs/REFUSALS.md", format!("- {pages} pages need {} page tables,", MOST_PAGES / 512)),
+        ("rust/bleiwurzel/src/cli/help.rs", format!("at most {window} MiB:")),
+    ];
+    for (file, said) in said {
+        let text = std::fs::read_to_string(top().join(file)).expect("a text");
+        assert!(text.contains(&said), "{file} does not say: {said}");
     }
 }

@@ -3,7 +3,7 @@
 
 mod common;
 
-use bleiwurzel::{answer, answer_capture, capture, finding, policy, Parts, Platform, Refusal, MOST_PAGES};
+use bleiwurzel::{answer, answer_capture, capture, finding, policy, Parts, Platform, Refusal};
 use common::{captures, place, policy_bytes, policy_files};
 use std::collections::BTreeSet;
 
@@ -99,7 +99,7 @@ extern "C" {
 
 /// Number and place by the function that the C header calls, which the crate does not.
 fn by_c(parts: &Parts, platform: &Platform) -> (u32, u32) {
-    let (mut pages, mut counts, mut place, mut digest) = (vec![0; MOST_PAGES], [0; 2], [u32::MAX], [0; 32]);
+    let (mut pages, mut counts, mut place, mut digest) = (vec![0; capture::PLACES], [0; 2], [u32::MAX], [0; 32]);
     // SAFETY: as in the crate: each slice has its own length, and what is written is this function's own.
     let number = unsafe {
         bleiwurzel_check(
@@ -137,12 +137,12 @@ fn by_c(parts: &Parts, platform: &Platform) -> (u32, u32) {
 fn the_same_place_by_all_functions() {
     let mut refused = 0;
     for (name, bytes) in captures() {
-        let given = answer_capture(&bytes, &mut vec![0; MOST_PAGES]);
+        let given = answer_capture(&bytes, &mut vec![0; capture::PLACES]);
         let (parts, platform) = match capture::split(&bytes) {
             Ok(split) => split,
             Err(_) => continue,
         };
-        let by_rust = answer(&parts, &platform, &mut vec![0; MOST_PAGES]);
+        let by_rust = answer(&parts, &platform, &mut vec![0; capture::PLACES]);
         assert_eq!((by_rust.number, by_rust.place), (given.number, given.place), "{name}");
         assert_eq!(by_c(&parts, &platform), (given.number, given.place), "{name}");
         if given.number == 27 {

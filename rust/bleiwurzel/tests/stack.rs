@@ -1,13 +1,13 @@
 //! How much stack the library's functions take. Each is called on a stack of its own that was painted before, and the deepest byte that has
 //! changed counts. A bound lies between what the library takes and what it would take with a schedule of 64 words in the digest, or with the
-//! round constants on the stack; docs/PERFORMANCE.md has the figures.
+//! round constants on the stack; docs/PERFORMANCE.md has the figures. What the check takes does not depend on the size of the image.
 
 #![cfg(all(target_arch = "x86_64", target_os = "linux"))]
 
 mod common;
 
-use bleiwurzel::MOST_PAGES;
-use common::captures;
+use bleiwurzel::{capture, MOST_PAGES, MOST_TABLES, MOST_WINDOW};
+use common::*;
 use std::arch::asm;
 
 extern "C" {
@@ -21,6 +21,8 @@ extern "C" {
         place: *mut [u32; 1],
         digest: *mut [u8; 32],
     ) -> u32;
+    /// Only its address is used; include/bleiwurzel.h has the arguments.
+    fn bleiwurzel_check();
 }
 
 const SIZE: usize = 1 << 16;
@@ -28,17 +30,19 @@ const SIZE: usize = 1 << 16;
 #[repr(C, align(16))]
 struct Stack([u8; SIZE]);
 
-/// The bytes above the top: a seventh argument stands there, and the top is a multiple of 16.
-const ABOVE: usize = 16;
+/// How many arguments are handed over in registers; the others stand on the stack.
+const REGISTERS: usize = 6;
 
 /// How many bytes from the top down to the deepest that a call has changed, where every byte was `paint`.
 ///
 /// # Safety
 /// The function takes these arguments, of which there may be more than it has, and needs less than `SIZE` bytes of stack.
-unsafe fn taken(stack: &mut Stack, paint: u8, function: *const (), arguments: [usize; 7]) -> usize {
+unsafe fn taken(stack: &mut Stack, paint: u8, function: *const (), arguments: &[usize]) -> usize {
     stack.0.fill(paint);
-    stack.0[SIZE - ABOVE..][..8].copy_from_slice(&arguments[6].to_ne_bytes());
-    let top = stack.0.as_mut_ptr_range().end.sub(ABOVE);
+    let further: Vec<u8> = arguments[REGISTERS..].iter().flat_map(|argument| argument.to_ne_bytes()).collect();
+    let above = (further.len() + 15) / 16 * 16;
+    stack.0[SIZE - above..][..further.len()].copy_from_slice(&further);
+    let top = stack.0.as_mut_ptr_range().end.sub(above);
     // The callee leaves r12 as it is, so the stack before is back at the end.
     asm!(
         "mov r12, rsp",
@@ -56,12 +60,12 @@ unsafe fn taken(stack: &mut Stack, paint: u8, function: *const (), arguments: [u
         out("r12") _,
         clobber_abi("C"),
     );
-    let changed = stack.0[..SIZE - ABOVE].iter().position(|&byte| byte != paint);
-    SIZE - ABOVE - changed.expect("the call has written nothing")
+    let changed = stack.0[..SIZE - above].iter().position(|&byte| byte != paint);
+    SIZE - above - changed.expect("the call has written nothing")
 }
 
 /// The most that a call takes. A byte of the deepest frame may happen to be the paint, but not both paints.
-unsafe fn deepest(stack: &mut Stack, function: *const (), arguments: [usize; 7]) -> usize {
+unsafe fn deepest(stack: &mut Stack, function: *const (), arguments: &[usize]) -> usize {
     taken(stack, 0x5a, function, arguments).max(taken(stack, 0xa5, function, arguments))
 }
 
@@ -73,9 +77,9 @@ fn the_digest() {
     let mut most = 0;
     for length in [0, 1, 55, 56, 63, 64, 65, 119, 120, 128, 4096, 4097] {
         let mut digest = [0u8; 32];
-        let arguments = [message.as_ptr() as usize, length, &mut digest as *mut _ as usize, 0, 0, 0, 0];
+        let arguments = [message.as_ptr() as usize, length, &mut digest as *mut _ as usize, 0, 0, 0];
         // SAFETY: the arguments are as include/bleiwurzel.h says, and the bound is far below the size.
-        most = most.max(unsafe { deepest(&mut stack, bleiwurzel_sha256 as *const (), arguments) });
+        most = most.max(unsafe { deepest(&mut stack, bleiwurzel_sha256 as *const (), &arguments) });
         assert_eq!(digest, bleiwurzel::sha256(&message[..length]), "length {length}");
     }
     println!("the digest takes {most} bytes of stack");
@@ -87,12 +91,12 @@ fn the_check_of_every_stored_capture() {
     const AT_MOST: usize = 4240;
     let mut stack = Box::new(Stack([0; SIZE]));
     let mut most = 0;
-    for (name, capture) in captures() {
-        let given = bleiwurzel::answer_capture(&capture, &mut vec![0; MOST_PAGES]);
-        let (mut pages, mut counts, mut place, mut digest) = (vec![0u64; MOST_PAGES], [0u32; 2], [0u32; 1], [0u8; 32]);
+    for (name, bytes) in captures() {
+        let given = bleiwurzel::answer_capture(&bytes, &mut vec![0; capture::PLACES]);
+        let (mut pages, mut counts, mut place, mut digest) = (vec![0u64; capture::PLACES], [0u32; 2], [0u32; 1], [0u8; 32]);
         let arguments = [
-            capture.as_ptr() as usize,
-            capture.len(),
+            bytes.as_ptr() as usize,
+            bytes.len(),
             pages.as_mut_ptr() as usize,
             pages.len(),
             &mut counts as *mut _ as usize,
@@ -100,9 +104,43 @@ fn the_check_of_every_stored_capture() {
             &mut digest as *mut _ as usize,
         ];
         // SAFETY: as above.
-        most = most.max(unsafe { deepest(&mut stack, bleiwurzel_check_capture as *const (), arguments) });
+        most = most.max(unsafe { deepest(&mut stack, bleiwurzel_check_capture as *const (), &arguments) });
         assert_eq!((place[0], digest), (given.place, given.digest), "{name}");
     }
     println!("the check of a capture takes {most} bytes of stack");
     assert!(most <= AT_MOST, "the check of a capture takes {most} bytes of stack, more than {AT_MOST}");
+}
+
+/// What the check of a permitted image takes.
+fn check_takes(stack: &mut Stack, image: &Image) -> usize {
+    let (parts, platform) = (image.parts(), image.platform);
+    let (mut pages, mut counts, mut place, mut digest) = (vec![0u64; image.places], [0u32; 2], [0u32; 1], [0u8; 32]);
+    let lent = [parts.window, parts.heap, parts.sinit, parts.record, parts.stm].map(|part| [part.as_ptr() as usize, part.len()]);
+    let numbers = [platform.window_base, platform.heap_base, platform.sinit_base, platform.dpr_base, platform.dpr_size];
+    let chipset = [platform.vendor, platform.device, platform.revision];
+    let mut arguments = lent.concat();
+    arguments.extend(numbers.map(|number| number as usize));
+    arguments.push(platform.acram_capacity as usize);
+    arguments.extend(chipset.map(usize::from));
+    arguments.extend([pages.as_mut_ptr() as usize, pages.len()]);
+    arguments.extend([&mut counts as *mut _ as usize, &mut place as *mut _ as usize, &mut digest as *mut _ as usize]);
+    // SAFETY: as above.
+    let taken = unsafe { deepest(stack, bleiwurzel_check as *const (), &arguments) };
+    assert_eq!(counts[0] as usize, image.listed.len(), "a permission");
+    assert_eq!(pages[..image.listed.len()], image.listed);
+    taken
+}
+
+/// Two pages, and as many pages, tables and bytes of the window as there may be.
+#[test]
+fn the_check_of_the_smallest_and_the_largest_image() {
+    let mut stack = Box::new(Stack([0; SIZE]));
+    let small = check_takes(&mut stack, &image(&Shape::default()));
+    let full = Shape { pages: MOST_PAGES, empty_tables: MOST_TABLES - MOST_PAGES / 512 - 2, ..Shape::default() };
+    let spare = MOST_WINDOW - (MOST_PAGES + MOST_TABLES) * PAGE;
+    let large = image(&Shape { spare, ..full });
+    assert_eq!((large.window.len(), large.content), (MOST_WINDOW, MOST_TABLES), "all limits are reached");
+    let large = check_takes(&mut stack, &large);
+    println!("the check takes {small} bytes of stack for two pages, {large} for {MOST_PAGES}");
+    assert_eq!(small, large, "the stack for two pages, and for the most");
 }

@@ -7,7 +7,7 @@ mod json;
 mod tool;
 
 use bleiwurzel::{answer_capture, capture, finding, policy, sha256};
-use bleiwurzel::{Parts, Platform, MOST_HEAP, MOST_PAGES, MOST_STM, MOST_WINDOW};
+use bleiwurzel::{Parts, Platform, MOST_HEAP, MOST_STM, MOST_WINDOW};
 use common::*;
 use json::is_json;
 use std::time::Instant;
@@ -54,7 +54,7 @@ fn shown_in_readme(first: &str) -> String {
 fn every_capture_by_the_tool() {
     let mut met = [0; 31];
     for (name, bytes) in captures() {
-        let given = answer_capture(&bytes, &mut vec![0; MOST_PAGES]);
+        let given = answer_capture(&bytes, &mut vec![0; capture::PLACES]);
         let number = given.number;
         met[number as usize] += 1;
         if met[number as usize] > 4 {
@@ -70,7 +70,7 @@ fn every_capture_by_the_tool() {
             continue;
         }
         let refusal = given.result().expect_err("a refusal");
-        let found = finding::find_in_capture(refusal, &bytes, MOST_PAGES).expect("a finding");
+        let found = finding::find_in_capture(refusal, &bytes, capture::PLACES).expect("a finding");
         assert!(plain.out.starts_with(&format!("{}, ", refusal.line())), "{name}: {}", plain.out);
         assert!(json.out.contains(&format!("\"number\": {number}, \"place\": {},", refusal.place)), "{name}: {}", json.out);
         for part in ["\n  where     ", "\n  expected  ", "\n  found     ", "\nWhat to do at the rack\n  - "] {

@@ -118,7 +118,7 @@ fn of_capture(args: &Args) -> Result<Said, Misuse> {
         return misuse(HELP, format!("--capture has all parts and the platform in one file; leave out {other}"));
     }
     let file = files::read(path, capture::MOST as u64, "the capture", HELP)?;
-    let mut pages = vec![0; MOST_PAGES];
+    let mut pages = vec![0; capture::PLACES];
     let json = args.has("--json");
     Ok(match bleiwurzel::check_capture(&file.bytes, &mut pages) {
         Ok(permission) => report::permitted(&permission, &pages, json),

@@ -35,7 +35,7 @@ Usage:
   bleiwurzel check --capture FILE [--json]
 
 The parts:
-  --window FILE          the memory from the window base on, at most 32 MiB:
+  --window FILE          the memory from the window base on, at most 128 MiB:
                          page tables, image and, under a LIST policy, the
                          policy file
   --heap FILE            the TXT heap from its first byte on, at most 1 MiB

@@ -1,5 +1,5 @@
 //! Rules 12, 13, 21 and 22: MLE Size, the page list, the number of pages and the MLE header. The digest and the page list of every
-//! permission are compared; images of 4,096 pages, and page lists of many lengths, stand in tests/images.rs.
+//! permission are compared; images of 16,384 pages, and page lists of many lengths, stand in tests/images.rs.
 //!
 //! The first linear page and the number of pages are the walk's, so a header cannot be asked about others; pages outside the window are
 //! 15, pages that do not ascend 16, and absent ones 21, before a header or a digest could be asked of them. An MLE Size that MleStart and
@@ -41,10 +41,10 @@ fn sizes() {
             ("MLE Size 4096", one_page, 0),
             ("MLE Size 4097", |i| mle_size(i, 4097), 12),
             ("MLE Size 8192", |i| mle_size(i, 8192), 0),
-            ("MLE Size of 4,096 pages less 1 byte", |i| mle_size(i, (1 << 24) - 1), 12),
-            ("MLE Size of 4,096 pages", |i| mle_size(i, 1 << 24), 21),
-            ("MLE Size of 4,096 pages and 1 byte", |i| mle_size(i, (1 << 24) + 1), 12),
-            ("MLE Size of 4,097 pages", |i| mle_size(i, (1 << 24) + 4096), 12),
+            ("MLE Size of 16,384 pages less 1 byte", |i| mle_size(i, (1 << 26) - 1), 12),
+            ("MLE Size of 16,384 pages", |i| mle_size(i, 1 << 26), 21),
+            ("MLE Size of 16,384 pages and 1 byte", |i| mle_size(i, (1 << 26) + 1), 12),
+            ("MLE Size of 16,385 pages", |i| mle_size(i, (1 << 26) + 4096), 12),
             ("MLE Size 2^63", |i| mle_size(i, 1 << 63), 12),
             ("MLE Size 8192 + 2^32", |i| mle_size(i, (1 << 32) + 8192), 12),
             ("MLE Size 2^64 - 1", |i| mle_size(i, u64::MAX), 12),

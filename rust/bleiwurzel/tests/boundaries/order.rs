@@ -30,7 +30,7 @@ const FAULTS: [(u32, fn(&mut Image)); 29] = [
     (15, |i| i.entry(POINTERS, 1, 0x1000)),
     (16, |i| i.entry(POINTERS, 1, 0)),
     (17, |i| i.platform.heap_base = BASE + (TWO * PAGE) as u64),
-    (18, |i| (1..15).for_each(|t| i.entry(DIRECTORY, t, 9 + t))),
+    (18, |i| (1..39).for_each(|t| i.entry(DIRECTORY, t, 9 + t))),
     (19, |i| i.entry(TABLE, 3, 11)),
     (20, |i| i.platform.dpr_size = 0),
     (21, |i| i.heap[MLE_SIZE + 1] = 0x10),

@@ -350,12 +350,12 @@ fn pages_of_two_tables() {
 
 /// DPR holds all pages of the largest image but the last, which lies in the low PMR.
 #[test]
-fn the_last_of_4096_pages() {
-    let mut image = image(&Shape { pages: 4096, ..Shape::default() });
+fn the_last_of_16384_pages() {
+    let mut image = image(&Shape { pages: 16_384, ..Shape::default() });
     let (first, last) = (image.listed[0], image.listed[4095]);
-    for (size, number) in [(4096 * 0x1000, 0), (4096 * 0x1000 - 1, 20)] {
+    for (size, number) in [(16_384 * 0x1000, 0), (16_384 * 0x1000 - 1, 20)] {
         dpr_low(&mut image, (first, size), (last, 0x1000));
-        assert_eq!(asked("4,096 pages", &image).number, number, "DPR of {size:#x} bytes");
+        assert_eq!(asked("16,384 pages", &image).number, number, "DPR of {size:#x} bytes");
     }
 }
 

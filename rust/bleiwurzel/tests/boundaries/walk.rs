@@ -250,17 +250,19 @@ fn hole() {
 
 #[test]
 fn tables() {
-    /// So many page tables from page 5 on under one directory, the last of them by an entry of its own. Page 20 is mapped by the first.
+    /// A page behind all tables, which the first page table maps.
+    const MAPPED: usize = 46;
+    /// So many page tables from page 5 on under one directory, the last of them by an entry of its own.
     fn under_one(i: &mut Image, count: usize, last: u64) {
         i.window[TABLE * PAGE..].fill(0);
         for t in 0..count - 1 {
             i.entry(DIRECTORY, t, TABLE + t);
         }
         i.entry_bits(DIRECTORY, count - 1, last);
-        i.entry(TABLE, 0, 20);
-        i.maps(0, &[20]);
+        i.entry(TABLE, 0, MAPPED);
+        i.maps(0, &[MAPPED]);
     }
-    /// Four directories in pages 3 to 6, and so many page tables under the last of them. Page 20 is mapped by the first of these.
+    /// Four directories in pages 3 to 6, and so many page tables under the last of them.
     fn under_four(i: &mut Image, count: usize) {
         i.window[DIRECTORY * PAGE..].fill(0);
         for d in 0..4 {
@@ -269,27 +271,27 @@ fn tables() {
         for t in 0..count {
             i.entry(6, t, 7 + t);
         }
-        i.entry(7, 0, 20);
-        i.maps(3 * 512 * 512, &[20]);
+        i.entry(7, 0, MAPPED);
+        i.maps(3 * 512 * 512, &[MAPPED]);
     }
     hold(
         &good(),
         &[
-            ("14 page tables, 16 tables in all", |i| under_one(i, 14, i.address(18) | 1), 0),
-            ("15 page tables, 17 tables in all", |i| under_one(i, 15, i.address(19) | 1), 18),
-            ("the seventeenth with bit 7", |i| under_one(i, 15, i.address(19) | 0x81), 14),
-            ("the seventeenth behind the window", |i| under_one(i, 15, i.address(ALL) | 1), 15),
-            ("the seventeenth not above the sixteenth", |i| under_one(i, 15, i.address(18) | 1), 16),
+            ("38 page tables, 40 tables in all", |i| under_one(i, 38, i.address(42) | 1), 0),
+            ("39 page tables, 41 tables in all", |i| under_one(i, 39, i.address(43) | 1), 18),
+            ("the 41st with bit 7", |i| under_one(i, 39, i.address(43) | 0x81), 14),
+            ("the 41st behind the window", |i| under_one(i, 39, i.address(ALL) | 1), 15),
+            ("the 41st not above the 40th", |i| under_one(i, 39, i.address(42) | 1), 16),
             (
-                "the seventeenth in the heap",
+                "the 41st in the heap",
                 |i| {
-                    under_one(i, 15, i.address(19) | 1);
-                    i.platform.heap_base = i.address(19);
+                    under_one(i, 39, i.address(43) | 1);
+                    i.platform.heap_base = i.address(43);
                 },
                 17,
             ),
-            ("4 directories and 11 page tables", |i| under_four(i, 11), 0),
-            ("4 directories and 12 page tables", |i| under_four(i, 12), 18),
+            ("4 directories and 35 page tables", |i| under_four(i, 35), 0),
+            ("4 directories and 36 page tables", |i| under_four(i, 36), 18),
         ],
     );
 }

@@ -238,7 +238,7 @@ pub const TABLE: usize = 5;
 pub const ONE: usize = 7;
 pub const TWO: usize = 9;
 /// How many pages the window has.
-pub const ALL: usize = 24;
+pub const ALL: usize = 48;
 
 /// A small image whose tables and pages have free pages around them, so that heap and module can be moved up to each of them.
 pub fn spread(base: u64) -> Image {

@@ -81,11 +81,11 @@ static void captures(void)
     a = bleiwurzel_launch_capture(capture, sizeof capture, list, 2);
     NEED(a.number == BLEIWURZEL_PERMITTED && a.pages == 2 && list[0] == 0x104000 && list[1] == 0x105000);
     static uint64_t many[BLEIWURZEL_MOST_PAGES];
-    uint8_t *size = capture + 75 + sizeof window + 24 + 16; /* MLE Size: a page more than the programs for captures lend places */
-    put(size, (BLEIWURZEL_CAPTURE_PLACES + 1) * PAGE, 8);
+    uint8_t *size = capture + 75 + sizeof window + 24 + 16; /* MLE Size */
+    put(size, (BLEIWURZEL_CAPTURE_PLACES + 1) * PAGE, 8);   /* a page more than the programs for captures lend places */
     NEED(bleiwurzel_launch_capture(capture, sizeof capture, many, BLEIWURZEL_CAPTURE_PLACES).number == BLEIWURZEL_PAGE_LIST);
     NEED(bleiwurzel_launch_capture(capture, sizeof capture, many, BLEIWURZEL_MOST_PAGES).number == BLEIWURZEL_PAGE_COUNT);
-    put(size, (BLEIWURZEL_MOST_PAGES + 1) * PAGE, 8);
+    put(size, (BLEIWURZEL_MOST_PAGES + 1) * PAGE, 8); /* a page more than an image may have */
     NEED(bleiwurzel_launch_capture(capture, sizeof capture, many, BLEIWURZEL_MOST_PAGES).number == BLEIWURZEL_MLE_SIZE);
 }
 

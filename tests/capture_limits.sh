@@ -1,6 +1,7 @@
 #!/usr/bin/env bash
 # The longest capture that the program launch_check reads: one of 65,536 bytes is answered, and with one byte more it is 30, whether the byte
-# is part of the window or stands behind the capture. The captures are examples/any.cap with zeros at the end of its window.
+# is part of the window or stands behind the capture. The captures are examples/any.cap with zeros at the end of its window. Then the most pages that
+# MLE Size may say: the program lends 4,096 places, so that one page more is 13, and 16,385 pages are 12.
 set -euo pipefail
 cd "$(dirname "$0")/.."
 example=examples/any.cap
@@ -36,4 +37,8 @@ head -c 1000000 /dev/zero >"$folder/zeros"
 [ "$(stat -c %s "$folder/longest")" -eq 65536 ] || { echo "capture_limits: no capture of 65536 bytes" >&2; exit 1; }
 answers longest "$(cat "$expected")"
 for name in longer one-behind zeros; do answers "$name" "refused 30"; done
-echo "captures of up to 65536 bytes are read, and no longer ones"
+for line in 4096:21 4097:13 16384:13 16385:12; do
+    cp "crates/stored_cases/data/12-pages-${line%:*}.cap" "$folder/pages"
+    answers pages "refused ${line#*:}"
+done
+echo "captures of up to 65536 bytes are read, and no longer ones; 4096 places are lent for pages"

@@ -107,7 +107,7 @@ pub fn first_in_capture(bytes: &[u8], places: usize) -> Option<Finding> {
     }
 }
 
-/// The same, where a page list that is too short for it would do for every capture: then the image is not in this one.
+/// Adds to a 13 that no capture holds so many pages, where the list has a place for every page that a capture could hold.
 fn of_capture(mut finding: Finding, places: usize) -> Finding {
     if finding.number == 13 && places >= capture::MOST / PAGE_SIZE as usize {
         let most = capture::MOST;

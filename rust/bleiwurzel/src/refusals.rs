@@ -335,12 +335,12 @@ pub static TEXTS: [Text; 30] = [
         rule: "N = MLE Size / 4096 is at most the number of places in the page list.",
         causes: &[
             "The calling program lends a short list.",
-            "A capture whose MLE Size says over 4,096 pages: `launch-check` and `bleiwurzel check --capture` lend so many places, and no capture has \
-             room for more pages. It does not hold the whole image, or its MLE Size is wrong.",
+            "The capture's MLE Size says more than 4,096 pages. `launch-check` and `bleiwurzel check --capture` lend 4,096 places, far more than a \
+             capture can hold pages: either MLE Size is wrong, or the capture does not hold the whole image.",
         ],
         technician: &[
-            "Ask again with the parts of the image and not with a capture: for these `bleiwurzel check` lends 16,384 places, the most that an image \
-             can need, and never answers 13.",
+            "Ask again with `bleiwurzel check` and the parts, not a capture: it then lends 16,384 places, the most that an image can need, and never \
+             answers 13. If that permits, the list of the program that asked was too short, and the image is not at fault.",
         ],
         builder: &["In the calling program, lend 16,384 places."],
     },

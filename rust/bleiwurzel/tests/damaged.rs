@@ -60,7 +60,7 @@ impl Damage {
     fn name_a_page(&mut self, dice: &mut Dice, image: &mut Image) {
         let entries = [16, 512][dice.below(2)];
         let at = dice.below(image.content) * PAGE + 8 * dice.below(entries);
-        let page = dice.below(image.window.len().min(64 * PAGE) / PAGE);
+        let page = dice.below(first_pages(image));
         let entry = image.address(page) | 1;
         (0..8).for_each(|i| self.set(&mut image.window, at + i, entry.to_le_bytes()[i]));
     }
@@ -85,6 +85,11 @@ fn digest_of(window: &[u8], base: u64, pages: &[u64]) -> [u8; 32] {
     digest_in_parts(&bytes, 0)
 }
 
+/// How many pages of the window are hit on purpose: all, or so many that tables and pages of a large image are among them.
+fn first_pages(image: &Image) -> usize {
+    image.window.len().min(64 * PAGE) / PAGE
+}
+
 /// A place in the window: mostly in the used parts of the tables and the first bytes of the image, else anywhere.
 fn place_in_window(dice: &mut Dice, image: &Image) -> usize {
     let table = dice.below(image.content);
@@ -101,10 +106,11 @@ fn place_in_window(dice: &mut Dice, image: &Image) -> usize {
     .min(image.window.len() - 1)
 }
 
-fn damage_platform(dice: &mut Dice, platform: &mut Platform) {
+/// Damages the platform, or puts heap or module on one of the first pages of the window.
+fn damage_platform(dice: &mut Dice, platform: &mut Platform, pages: usize) {
     let bit = 1u64 << dice.below(64);
     let small = bit as u16;
-    let page = BASE + (dice.below(24) * PAGE) as u64;
+    let page = BASE + (dice.below(pages) * PAGE) as u64;
     match dice.below(11) {
         0 => platform.window_base ^= bit,
         1 => platform.heap_base ^= bit,
@@ -124,7 +130,7 @@ fn damage_platform(dice: &mut Dice, platform: &mut Platform) {
 fn damage_image(name: &str, mut image: Image, times: usize, seed: u64, counts: &mut BTreeMap<u32, usize>) {
     let mut dice = Dice(seed);
     let mut pages = vec![UNTOUCHED; MOST_PAGES];
-    let platform = image.platform;
+    let (platform, aimed_at) = (image.platform, first_pages(&image));
     for turn in 0..times {
         let mut damages = [(); 5].map(|()| Damage::new());
         let kinds = if image.stm.is_empty() { 13 } else { 14 };
@@ -146,7 +152,7 @@ fn damage_image(name: &str, mut image: Image, times: usize, seed: u64, counts: &
                     let at = dice.below(70);
                     damages[3].hit(&mut dice, &mut image.record, at);
                 }
-                11 => damage_platform(&mut dice, &mut image.platform),
+                11 => damage_platform(&mut dice, &mut image.platform, aimed_at),
                 12 => damages[0].name_a_page(&mut dice, &mut image),
                 _ => {
                     let at = dice.below(image.stm.len());

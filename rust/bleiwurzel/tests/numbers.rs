@@ -1,5 +1,6 @@
 //! The numbers of the rules stand in several languages. This holds the C header, launch-check and the Rust crate to the definitions in the Rattle
-//! sources: `const NAME: TYPE = VALUE;` in crates/*/src and `name = VALUE` in crates/*/specs.
+//! sources: `const NAME: TYPE = VALUE;` in crates/*/src and `name = VALUE` in crates/*/specs. What people read of the limits of an image's size is
+//! held to the Rust crate.
 //!
 //! Where a definition is renamed or moves to another crate, the table below is what changes.
 
@@ -267,12 +268,13 @@ fn grouped(number: usize) -> String {
     digits.chars().enumerate().flat_map(group).collect()
 }
 
-/// What people read of the limits of an image's size stands in several texts.
+/// The limits of an image's size, as sentences and tables of several texts say them.
 #[test]
 fn the_texts_say_the_same_limits() {
     let (window, image) = (MOST_WINDOW >> 20, (MOST_PAGES * PAGE_SIZE as usize) >> 20);
     let (pages, places, tables) = (grouped(MOST_PAGES), grouped(capture::PLACES), MOST_TABLES);
     let said = [
+        ("README.md", format!("of up to {pages} pages, is checked by its parts")),
         ("README.md", format!("| memory window | {window} MiB,")),
         ("README.md", format!("| image | {pages} pages ({image} MiB),")),
         ("README.md", format!("| page tables | {tables} pages in all,")),
@@ -286,8 +288,13 @@ fn the_texts_say_the_same_limits() {
         ("docs/REFUSALS.md", format!("from {PAGE_SIZE} to {}.", grouped(MOST_PAGES * PAGE_SIZE as usize))),
         ("docs/REFUSALS.md", format!("The image is over {image} MiB.")),
         ("docs/REFUSALS.md", format!("at or under {pages} pages.")),
-        ("docs/REFUSALS.md", format!("MLE Size says over {places} pages:")),
-        ("docs/REFUSALS.md", format!("lends {pages} places, the most that an image can need")),
+        (
+            "docs/REFUSALS.md",
+            format!(
+                "MLE Size says more than {places} pages. `launch-check` and `bleiwurzel check --capture` lend {places} places"
+            ),
+        ),
+        ("docs/REFUSALS.md", format!("it then lends {pages} places, the most that an image can need")),
         ("docs/REFUSALS.md", format!("lend {pages} places.")),
         ("docs/REFUSALS.md", format!("at most {tables} pages; the entry that names the {}st is refused.", tables + 1)),
         ("docs/REFUSALS.md", format!("- {pages} pages need {} page tables,", MOST_PAGES / 512)),

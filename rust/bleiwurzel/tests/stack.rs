@@ -111,7 +111,7 @@ fn the_check_of_every_stored_capture() {
     assert!(most <= AT_MOST, "the check of a capture takes {most} bytes of stack, more than {AT_MOST}");
 }
 
-/// What the check of a permitted image takes.
+/// What the check of an image takes that is permitted under ANY.
 fn check_takes(stack: &mut Stack, image: &Image) -> usize {
     let (parts, platform) = (image.parts(), image.platform);
     let (mut pages, mut counts, mut place, mut digest) = (vec![0u64; image.places], [0u32; 2], [0u32; 1], [0u8; 32]);
@@ -133,7 +133,8 @@ fn check_takes(stack: &mut Stack, image: &Image) -> usize {
 
 /// Two pages, and as many pages, tables and bytes of the window as there may be.
 #[test]
-fn the_check_of_the_smallest_and_the_largest_image() {
+fn the_check_of_a_small_and_of_the_largest_image() {
+    const AT_MOST: usize = 2240;
     let mut stack = Box::new(Stack([0; SIZE]));
     let small = check_takes(&mut stack, &image(&Shape::default()));
     let full = Shape { pages: MOST_PAGES, empty_tables: MOST_TABLES - MOST_PAGES / 512 - 2, ..Shape::default() };
@@ -143,4 +144,5 @@ fn the_check_of_the_smallest_and_the_largest_image() {
     let large = check_takes(&mut stack, &large);
     println!("the check takes {small} bytes of stack for two pages, {large} for {MOST_PAGES}");
     assert_eq!(small, large, "the stack for two pages, and for the most");
+    assert!(large <= AT_MOST, "the check of an image takes {large} bytes of stack, more than {AT_MOST}");
 }

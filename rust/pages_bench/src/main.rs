@@ -3,10 +3,11 @@
 //! verification of a signed list with the longer key. All take turns in one process. What a page costs is compared with what it costs in the
 //! smallest image, which shows whether the time grows as the pages do.
 //!
-//! With `--at-most R` it fails where a refused check takes more than R of its digest's time, where a permitted one takes more than half as much
-//! again as the digest, where in either a page costs more than half as much again as in the smallest image, or where one verification takes more than
-//! a twentieth of the digest of 4,096 pages. These are loose bounds, so that another program on the machine does not break them. The median of the
-//! ratios of one run counts, which such a program changes least.
+//! With `--at-most R` it fails where a refused check takes more than R of its digest's time, or a page in it more than in the smallest image; where a
+//! permitted one takes more than half as much again as the digest, or a page in it half as much again as in the smallest image; or where one
+//! verification takes more than a twentieth of the digest of 4,096 pages. These are loose bounds, so that another program on the machine does not
+//! break them: a refused check has a fixed part, so that a page costs little more than half in a larger image. The median of the ratios of one run
+//! counts, which such a program changes least.
 
 #[path = "../../bleiwurzel/tests/common/mod.rs"]
 mod common;
@@ -21,7 +22,8 @@ const SIZES: [usize; 3] = [1024, 4096, MOST_PAGES];
 const MIDDLE: usize = 1;
 const HEADER_FAULT: u32 = 22;
 const MOST_WHOLE: f64 = 1.5;
-const MOST_GROWTH: f64 = 1.5;
+const MOST_WHOLE_GROWTH: f64 = 1.5;
+const MOST_EARLY_GROWTH: f64 = 1.0;
 const MOST_VERIFICATION: f64 = 0.05;
 const KEY_SIZE: usize = 384;
 
@@ -82,7 +84,7 @@ fn signed_list() -> SignedList {
 }
 
 fn run(subjects: &[Subject; SIZES.len()], list: &SignedList) -> Run {
-    let images = [0, 1, 2].map(|size| subjects[size].times());
+    let images = std::array::from_fn(|size| subjects[size].times());
     let (verified, verifies) = timed(|| rsa_verify(list.key(), list.signature(), list.message()));
     assert!(verifies, "the stored signature");
     Run { images, verified }
@@ -110,8 +112,14 @@ fn growth(runs: &[Run], size: usize, what: usize) -> f64 {
     median(runs, |run| run.images[size][what] / run.images[0][what] / pages)
 }
 
-/// Prints what was measured of an image; whether it keeps the bounds.
-fn shown(runs: &[Run], size: usize, limit: f64) -> bool {
+/// Whether what was measured of an image keeps the bounds.
+fn kept(runs: &[Run], size: usize, limit: f64) -> bool {
+    let shares = share(runs, size, EARLY) <= limit && share(runs, size, WHOLE) <= MOST_WHOLE;
+    // The smallest image is compared with itself, which is 1.
+    shares && growth(runs, size, EARLY) <= MOST_EARLY_GROWTH && growth(runs, size, WHOLE) <= MOST_WHOLE_GROWTH
+}
+
+fn show(runs: &[Run], size: usize) {
     let [hashed, early, whole, plain] = [HASHED, EARLY, WHOLE, PLAIN].map(|what| best(runs, |run| run.images[size][what]));
     let (before, all) = (share(runs, size, EARLY), share(runs, size, WHOLE));
     let (before_growth, all_growth) = (growth(runs, size, EARLY), growth(runs, size, WHOLE));
@@ -121,7 +129,6 @@ fn shown(runs: &[Run], size: usize, limit: f64) -> bool {
         SIZES[size],
         SIZES[0],
     );
-    before <= limit && all <= MOST_WHOLE && before_growth.max(all_growth) <= MOST_GROWTH
 }
 
 fn main() {
@@ -134,17 +141,18 @@ fn main() {
     let (subjects, list) = (SIZES.map(Subject::of), signed_list());
     let runs: Vec<Run> = (0..RUNS).map(|_| run(&subjects, &list)).collect();
     println!("best of {RUNS} runs each; ratios are medians of those of one run");
-    let kept = [0, 1, 2].map(|size| shown(&runs, size, limit));
+    (0..SIZES.len()).for_each(|size| show(&runs, size));
     let (verified, verification) =
         (best(&runs, |run| run.verified), median(&runs, |run| run.verified / run.images[MIDDLE][HASHED]));
     println!(
         "one RSA verification at {KEY_SIZE} bytes: {verified:.1} µs, {verification:.5} of the digest of {} pages",
         SIZES[MIDDLE]
     );
-    if limit.is_finite() && (kept != [true; 3] || verification > MOST_VERIFICATION) {
+    let all_kept = (0..SIZES.len()).all(|size| kept(&runs, size, limit));
+    if limit.is_finite() && !(all_kept && verification <= MOST_VERIFICATION) {
         eprintln!(
-            "over {limit} of the digest's time before the digest, or over {MOST_WHOLE} in all, or a page over {MOST_GROWTH} of what it costs in the \
-             smallest image, or over {MOST_VERIFICATION} for one verification"
+            "over {limit} of the digest's time before the digest, or over {MOST_WHOLE} in all, or a page over {MOST_EARLY_GROWTH} before the digest or \
+             {MOST_WHOLE_GROWTH} in all of what it costs in the smallest image, or over {MOST_VERIFICATION} for one verification"
         );
         std::process::exit(1);
     }

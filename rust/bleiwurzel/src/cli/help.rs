@@ -90,7 +90,7 @@ Examples:
   A capture, for people and for programs (one JSON object on one line):
     bleiwurzel check --capture host17.cap
     bleiwurzel check --capture host17.cap --json
-  An image of any size by its parts:
+  A larger image by its parts:
     bleiwurzel check --window window.bin --heap heap.bin --sinit sinit.bin \\
         --policy-record record.bin --platform host17.txt
   The same on a host with an STM:

@@ -351,9 +351,11 @@ fn pages_of_two_tables() {
 /// DPR holds all pages of the largest image but the last, which lies in the low PMR.
 #[test]
 fn the_last_of_16384_pages() {
-    let mut image = image(&Shape { pages: 16_384, ..Shape::default() });
-    let (first, last) = (image.listed[0], image.listed[4095]);
-    for (size, number) in [(16_384 * 0x1000, 0), (16_384 * 0x1000 - 1, 20)] {
+    const PAGES: usize = 16_384;
+    const SIZE: u64 = (PAGES * PAGE) as u64;
+    let mut image = image(&Shape { pages: PAGES, ..Shape::default() });
+    let (first, last) = (image.listed[0], image.listed[PAGES - 1]);
+    for (size, number) in [(SIZE, 0), (SIZE - 1, 20)] {
         dpr_low(&mut image, (first, size), (last, 0x1000));
         assert_eq!(asked("16,384 pages", &image).number, number, "DPR of {size:#x} bytes");
     }

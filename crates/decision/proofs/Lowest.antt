@@ -7,11 +7,12 @@ use mathlib.Core.Option.{Option, some, none}
 use native.Mathlib.Numerals.{add-one}
 use Rattle.policy_answers.specs.declared.ListAnswer.{ListAnswer}
 use Rattle.policy_grammar.specs.Grammar.{PolicyList, Reading}
+use Rattle.policy_grammar.specs.Parser.{isSome}
 use Rattle.policy_grammar.specs.Decode.{accepted}
 use Rattle.policy_reader.proofs.Standing as kinds
 use Rattle.policy_reader.proofs.Walk.{Front}
 use Rattle.answer.specs.Answer.{noList}
-use Rattle.decision.specs.Lists.{Criteria, isSome, ofGrammar, permits, lowestFrom, lowestPermitting}
+use Rattle.decision.specs.Lists.{Criteria, ofGrammar, permits, lowestFrom, lowestPermitting}
 use Rattle.decision.specs.Inner.{ListStands}
 
 pub record Lowest (k : Criteria) (all : List PolicyList) (i : ℕ) (rest : List PolicyList) : Type 0 where

@@ -9,12 +9,13 @@ use native.Mathlib.Omega.{arith}
 use lib.ListN.{length}
 use Rattle.field.specs.Number.{Bytes}
 use Rattle.policy_grammar.specs.Grammar.{Reading}
+use Rattle.policy_grammar.specs.Parser.{isSome}
 use Rattle.policy_grammar.specs.Decode.{accepted, faultPlace}
 use Rattle.policy_grammar.specs.Fault.{FirstFaultIn}
 use Rattle.policy_grammar.specs.Sizes.{leastFile, largestFile}
 use Rattle.policy_reader.proofs.Places.{accepted-sound, accepted-complete}
 use Rattle.policy_reader.proofs.Readings.{is-place}
-use Rattle.decision.specs.Lists.{isSome, ofGrammar, listsOf}
+use Rattle.decision.specs.Lists.{ofGrammar, listsOf}
 use Rattle.decision.specs.Meaning.{OfGrammar, GrammarExactly, Reads, ListsExactly}
 use Rattle.decision.proofs.Walking.{short}
 

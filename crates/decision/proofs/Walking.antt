@@ -13,14 +13,14 @@ use mir.Syntax.{w8}
 use Rattle.policy_answers.specs.declared.FileAnswer.{FileAnswer}
 use Rattle.policy_answers.specs.declared.FileAnswer.the-variants.{Accepted, WrongSize, NotOfGrammar}
 use Rattle.policy_grammar.specs.Grammar.{All, listBytes, ValidList, Reading}
-use Rattle.policy_grammar.specs.Parser.{valueOf}
+use Rattle.policy_grammar.specs.Parser.{valueOf, isSome}
 use Rattle.policy_grammar.specs.Decode.{reading, accepted, faultPlace}
 use Rattle.policy_grammar.specs.Sizes.{sized}
 use Rattle.policy_answers.specs.Answers.{fileShown, fileAnswer}
 use Rattle.policy_answers.specs.Seen.{placeOf}
 use Rattle.policy_reader.proofs.Readings.{fault-outside}
 use Rattle.policy_reader.proofs.Walk.{walk-start}
-use Rattle.decision.specs.Lists.{isSome, ofGrammar, listsOf}
+use Rattle.decision.specs.Lists.{ofGrammar, listsOf}
 
 abbrev pub isAccepted : FileAnswer → Bool
 isAccepted (Accepted n) = true

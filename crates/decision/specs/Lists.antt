@@ -2,7 +2,6 @@
 use Prim.Native.Nat.{ℕ, suc, _-_}
 use mathlib.Core.Bool.{Bool, true, false, cond, not, _&&_, _||_}
 use mathlib.Core.List.{List, [], _∷_, flatMap}
-use mathlib.Core.Option.{Option, some, none}
 use lib.Dec.{leb, ltb, eqb}
 use lib.ListN.{length, take, drop}
 use Rattle.field.specs.Field.{same}
@@ -15,6 +14,7 @@ use Rattle.rsa.specs.Rsa.{verifies}
 use Rattle.policy_grammar.specs.Grammar.{Digests, Body, Launch, launchType, customType, stmType, Element, Signature, Signing, PolicyList, listBytes}
 use Rattle.policy_grammar.specs.Grammar as Grammar
 use Rattle.policy_answers.specs.Answers.{listsIn}
+use Rattle.policy_grammar.specs.Parser.{isSome}
 use Rattle.policy_grammar.specs.Decode.{accepted}
 use Rattle.policy_grammar.specs.Sizes.{leastFile, largestFile}
 use Rattle.policy_record.specs.Record.{policyHash, sha256Alg}
@@ -33,10 +33,6 @@ unfoldable pub fileOf : List ℕ → ℕ → ℕ → ℕ → List ℕ
 fileOf w window base size = cond (all (filePlaced w window base size)) (take size (drop (base - window) w)) []
 
 -- 27. "policy file not of the grammar"; a string of a size that is not read is not either
-abbrev pub isSome : {A : Type 0} → Option A → Bool
-isSome none = false
-isSome (some a) = true
-
 unfoldable pub ofGrammar : List ℕ → Bool
 ofGrammar file = isSome (accepted file)
 

@@ -7,6 +7,7 @@ use mathlib.Core.Path.{_≡_, refl, ap, sym, _∙_, subst}
 use mathlib.Core.Logic.{_⊎_, inl, inr, ⊎-elim}
 use mathlib.Core.Bool.{Bool, true, false, cond, _&&_, _||_, and-eq-true-iff}
 use mathlib.Core.List.{List, [], _∷_, _++_, flatMap, append-assoc, append-nil}
+use mathlib.Core.Option.{some}
 use lib.ListN.{length, take, drop, length-append, take-append-drop}
 use lib.Dec.{leb, eqb}
 use borrow.Author.Tests.{le-leb, eq-eqb, ne-eqb, leb-true, eqb-true, eqb-false}
@@ -17,13 +18,13 @@ use Rattle.policy_grammar.specs.Grammar.{Digests, digestsBytes, ValidDig
 use Rattle.policy_grammar.specs.Grammar as Grammar
 use Rattle.policy_grammar.specs.Format.{done, string, any, anyBytes, rest, inside, times, many}
 use Rattle.policy_grammar.specs.Layout as Layout
-use Rattle.policy_grammar.specs.Parser.{Read, value, fault}
+use Rattle.policy_grammar.specs.Parser.{Read, value, fault, valueOf, filling}
 use Rattle.policy_grammar.specs.Layout.{whole}
 use Rattle.policy_grammar.specs.Decode.{reading}
 use Rattle.policy_grammar.specs.Fault.{Stands, FirstFaultIn, MadeExactly, SomePlace}
 use Rattle.policy_grammar.proofs.Formats.{value-fault, then-stands, read-stands, stands-read}
 use Rattle.policy_grammar.proofs.Faults.{fault-exactly}
-use Rattle.policy_grammar.proofs.Soundness.{Sound, Made, Complete, bytes-left, then-sound, done-sound, done-complete, number-sound, number-complete, string-sound, string-complete, rest-sound, rest-complete, inside-sound, inside-complete, inside-left, times-sound, times-complete, many-sound, many-complete}
+use Rattle.policy_grammar.proofs.Soundness.{Sound, Made, Complete, bytes-left, then-sound, done-sound, done-complete, number-sound, number-complete, string-sound, string-complete, rest-sound, rest-complete, inside-sound, inside-complete, inside-left, filling-value, value-filling, times-sound, times-complete, many-sound, many-complete}
 
 -- a number is one of two
 pub one-of : (n a b : ℕ) → (n ≡ a) ⊎ (n ≡ b) → (eqb n a || eqb n b) ≡ true
@@ -115,12 +116,21 @@ body-sound type = go (eqb type launchType) (eqb type stmType) refl refl
     go false false e q =
         then-sound rest _ _ _ rest-sound λ b x d. done-sound (Grammar.other b) _ ((eqb-false type launchType e, eqb-false type stmType q), d ∙ sym (append-nil x))
 
-body-complete : (type : ℕ) (b : Body) → ValidBody type b → Stands (Layout.body type) b (bodyBytes b) []
+pub body-complete : (type : ℕ) (b : Body) → ValidBody type b → Stands (Layout.body type) b (bodyBytes b) []
 unfolding Layout.body Layout.other
 body-complete type (Grammar.launch b) h = rw (h .0) (rw append-nil at (launch-complete b [] (h .1)))
 body-complete type (Grammar.stm d) h = rw (h .0) (rw append-nil at (stm-complete d [] (h .1)))
 body-complete type (Grammar.other b) h =
     rw (ne-eqb type launchType (h .0), ne-eqb type stmType (h .1)) (then-stands _ rest b (Grammar.other b) b [] [] (rest-complete b) (done-complete (Grammar.other b) []))
+
+-- what fills a string as a body makes it, and the bytes that a body makes are filled by it
+pub body-made : (kind : ℕ) (b : List ℕ) (x : Body) → Bytes b → valueOf (filling (Layout.body kind) b) ≡ some x → ValidBody kind x × (bodyBytes x ≡ b)
+body-made kind b x h e =
+    let (y, q, d) = body-sound kind b x [] h (value-filling (Layout.body kind) b x e) in
+    (q .0, q .1 ∙ sym (append-nil y) ∙ d)
+
+pub body-read : (kind : ℕ) (x : Body) → ValidBody kind x → valueOf (filling (Layout.body kind) (bodyBytes x)) ≡ some x
+body-read kind x h = ap valueOf (filling-value (Layout.body kind) (bodyBytes x) x (body-complete kind x h))
 
 -- an element
 pub element-length : (e : Element) → length (elementBytes e) ≡ 12 + length (bodyBytes (e .body))

@@ -5,8 +5,9 @@ use native.Mathlib.Omega.{arith}
 use mathlib.Core.Path.{_≡_, refl, ap, sym, _∙_, subst}
 use mathlib.Core.Bool.{Bool, true, false, cond}
 use mathlib.Core.List.{List, [], _∷_, _++_, flatMap, append-assoc, append-nil}
+use mathlib.Core.Option.{some}
 use lib.ListN.{length, take, drop, length-append, length-drop}
-use lib.Seq.{take-append-seam, drop-append-seam, take-all}
+use lib.Seq.{take-append-seam, drop-append-seam, take-all, drop-length}
 use lib.Dec.{eqb}
 use borrow.Author.Tests.{eq-eqb, ne-eqb}
 use Rattle.field.specs.Number.{Bytes, bytes}
@@ -14,9 +15,9 @@ use Rattle.field.specs.Number as Number
 use Rattle.field.proofs.Laws.{bytes-drop, bytes-take, length-bytes, number-bytes, bytes-number, number-below}
 use Rattle.policy_grammar.specs.Grammar.{All}
 use Rattle.policy_grammar.specs.Format.{Format, done, _>>=_, number, string, anyBytes, rest, inside, times, many}
-use Rattle.policy_grammar.specs.Parser.{value, exactly, read, filling}
+use Rattle.policy_grammar.specs.Parser.{Read, value, fault, valueOf, exactly, read, filling}
 use Rattle.policy_grammar.specs.Fault.{Stands}
-use Rattle.policy_grammar.proofs.Formats.{row, read-stands, stands-read, then-stands, stands-then}
+use Rattle.policy_grammar.proofs.Formats.{row, exactly-value, read-stands, stands-read, then-stands, stands-then}
 
 -- whatever stands by F, with its bytes, meets R
 abbrev pub Sound : {A : Type 0} → Format A → (A → List ℕ → Type 0) → Type 0
@@ -123,6 +124,16 @@ module _ {A : Type 0} (F : Format A) (s : List ℕ) where
       let (n, e, _, z) = stands-read F s a [] h in
       let l : n ≡ length s = omega arith in
       rw (e, eq-eqb n (length s) l) (ap (value a) l)
+
+  pub value-filling : (a : A) → valueOf (filling F s) ≡ some a → Stands F a s []
+  value-filling a h = go (filling F s) refl h
+    where
+      go : (g : Read A) → filling F s ≡ g → valueOf g ≡ some a → Stands F a s []
+      go (value b n) e q =
+          let d : b ≡ a = cc in
+          let (w, l) = exactly-value b n (length s) (read F s) e in
+          subst (λ (x : A). Stands F x s []) d (subst (Stands F b s) (rw l (drop-length s)) (read-stands F s b n w .1))
+      go (fault p) e q = let z : _≡_ {A = ℕ} 0 1 = cc in absurd (omega arith)
 
 -- what is read by a format that is sound, and by one that is complete
 pub reads-sound : {A : Type 0} (f : A → List ℕ) (P : A → Type 0) (F : Format A) → Sound F (Made f P) → (s : List ℕ) (a : A) (n : ℕ) → Bytes s → read F s ≡ value a n

@@ -2,7 +2,7 @@
 -- A fault is an offset from the string's first byte: that of the first field that does not fit or breaks its rule, or that of the
 -- first byte after the last field of a part that is longer. specs/Fault.antt says this without the reading.
 use Prim.Native.Nat.{ℕ, _+_, _-_}
-use mathlib.Core.Bool.{cond, _&&_}
+use mathlib.Core.Bool.{Bool, true, false, cond, _&&_}
 use mathlib.Core.List.{List}
 use mathlib.Core.Option.{Option, some, none}
 use lib.ListN.{length, take, drop}
@@ -17,6 +17,11 @@ pub data Read (A : Type 0) : Type 0 where
 abbrev pub valueOf : {A : Type 0} → Read A → Option A
 valueOf (value a n) = some a
 valueOf (fault p) = none
+
+-- there is one
+abbrev pub isSome : {A : Type 0} → Option A → Bool
+isSome none = false
+isSome (some a) = true
 
 -- the offset of the fault, 0 where a value was read
 abbrev pub faultOf : {A : Type 0} → Read A → ℕ

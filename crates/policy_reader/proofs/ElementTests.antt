@@ -15,11 +15,12 @@ use Rattle.field.specs.declared.Field.the-variants.{Number, Outside}
 use Rattle.field.proofs.Laws.{from-offset}
 use Rattle.policy_grammar.specs.Grammar.{digestLength, Digests, Body, launchType, stmType, Element}
 use Rattle.policy_grammar.specs.Grammar as Grammar
-use Rattle.policy_grammar.specs.Format.{Format, done, _>>=_, number, string, any, anyBytes, rest, inside, times}
+use Rattle.policy_grammar.specs.Format.{Format, done, _>>=_, number, string, any, anyBytes, inside, times}
 use Rattle.policy_grammar.specs.Parser.{value, after, continue, exactly, read, filling}
 use Rattle.policy_grammar.specs.Layout as Layout
-use Rattle.policy_grammar.proofs.Formats.{read-then, then-stands}
-use Rattle.policy_grammar.proofs.Soundness.{done-complete, rest-complete, filling-value}
+use Rattle.policy_grammar.proofs.Formats.{read-then}
+use Rattle.policy_grammar.proofs.Soundness.{filling-value}
+use Rattle.policy_grammar.proofs.Decoding.{body-complete}
 use Rattle.policy_grammar.proofs.Heads.{Upto, upto-start, number-holds, number-wrong, inside-read}
 use Rattle.policy_reader.specs.Inner.{extentOf, further}
 use Rattle.policy_reader.specs.declared.Extent.{Extent}
@@ -148,6 +149,25 @@ module _ (b : List ℕ) (f : Field) (ef : f ≡ fieldAt b 0 1) where
 pub reserved-fits : (b : List ℕ) (g : Field) → g ≡ fieldAt b 1 1 → (v : ℕ) → g ≡ Number v → 2 ≤ length b
 reserved-fits b g e v q = fitting b 1 1 tt tt g e v q .1
 
+-- a body, by its type
+module _ (b : List ℕ) (t : ℕ) where
+  abbrev filled : Extent
+  filled = extentOf (filling (Layout.body t) b)
+
+  pub body-launch : t ≡ launchType → (x : Extent) → x ≡ extentOf (filling Layout.launch b) → x ≡ filled
+  unfolding Layout.body
+  body-launch e x q = rw e q
+
+  module _ (nl : t ≡ launchType → ⊥) where
+    pub body-stm : t ≡ stmType → (x : Extent) → x ≡ extentOf (filling Layout.digests b) → x ≡ filled
+    unfolding Layout.body Layout.stm
+    body-stm e x q =
+        let all = last-filling Layout.stm b 0 Layout.digests Grammar.stm (upto-start Layout.stm b) (omega arith) ∙ further-none (extentOf (filling Layout.digests b)) in
+        rw (e, all) q
+
+    pub body-other : (t ≡ stmType → ⊥) → Size (length b) ≡ filled
+    body-other ns = sym (ap extentOf (filling-value (Layout.body t) b (Grammar.other b) (body-complete t (Grammar.other b) (nl, ns))))
+
 -- the element at the front of t
 abbrev sizeRule : ℕ → ℕ → Bool
 sizeRule left n = leb 12 n && leb n (4 + left)
@@ -189,27 +209,11 @@ module _ (s : List ℕ) (f : Field) (ef : f ≡ fieldAt s 0 4) where
       b-length : length b ≡ n - 12
       b-length = length-take-le (n - 12) (drop 12 s) (rw length-drop (omega arith))
 
-      to-body : judged ≡ further 12 (extentOf (filling (Layout.body t) b))
-      to-body =
+      pub element-body : (x : Extent) → x ≡ extentOf (filling (Layout.body t) b) → (r : Extent) → r ≡ further 12 x → r ≡ judged
+      element-body x q r h =
           let o : sizeRule (length s - 4) n ≡ true = rw (le-leb 12 n l) (le-leb n (4 + (length s - 4)) (omega arith)) in
           let u₄ = number-holds Layout.element s 0 4 sizeRule _ from-size tt tt (size-fits .0) (omega arith) o in
           let u₈ = number-holds Layout.element s 4 4 any _ u₄ tt tt et (omega arith) refl in
           let u₁₂ = number-holds Layout.element s 8 4 any (bodyOf n t) u₈ tt tt refl (omega arith) refl in
-          last-extent Layout.element s 12 (inside (n - 12) (Layout.body t)) (elementOf n t (numberAt s 8 4)) u₁₂ ∙ ap (further 12) (ap extentOf (inside-read (n - 12) (Layout.body t) (drop 12 s) b-length))
-
-      pub element-launch : t ≡ launchType → (x : Extent) → x ≡ extentOf (filling Layout.launch b) → (r : Extent) → r ≡ further 12 x → r ≡ judged
-      unfolding Layout.body
-      element-launch e x q r h = rw (to-body, e) (h ∙ ap (further 12) q)
-
-      module _ (nl : t ≡ launchType → ⊥) where
-        pub element-stm : t ≡ stmType → (x : Extent) → x ≡ extentOf (filling Layout.digests b) → (r : Extent) → r ≡ further 12 x → r ≡ judged
-        unfolding Layout.body Layout.stm
-        element-stm e x q r h =
-            let all = last-filling Layout.stm b 0 Layout.digests Grammar.stm (upto-start Layout.stm b) (omega arith) ∙ further-none (extentOf (filling Layout.digests b)) in
-            rw (to-body, e, all) (h ∙ ap (further 12) q)
-
-        pub element-other : (t ≡ stmType → ⊥) → Size n ≡ judged
-        unfolding Layout.body Layout.other
-        element-other ns =
-            let whole = filling-value Layout.other b (Grammar.other b) (then-stands _ rest b _ b [] [] (rest-complete b) (done-complete _ [])) in
-            rw (to-body, ne-eqb t launchType nl, ne-eqb t stmType ns, whole) (ap Size (omega (arith, b-length)))
+          let to-body = last-extent Layout.element s 12 (inside (n - 12) (Layout.body t)) (elementOf n t (numberAt s 8 4)) u₁₂ in
+          h ∙ ap (further 12) (q ∙ sym (ap extentOf (inside-read (n - 12) (Layout.body t) (drop 12 s) b-length))) ∙ sym to-body

@@ -2,6 +2,7 @@
 -- What each function answers, by the tests that it makes.
 mod ReadExtents
 mod ElementTests
+mod Bodies
 mod ListTests
 mod Rows
 mod FileTests

@@ -10,8 +10,9 @@ ghost use mathlib.Core.Path.{_≡_};
 ghost use Prim.Native.Nat.{_≤_};
 ghost use lib.ListN.{length, drop};
 ghost use Rattle.policy_grammar.specs.Format.{many};
-ghost use Rattle.policy_grammar.specs.Parser.{read, filling};
+ghost use Rattle.policy_grammar.specs.Parser.{valueOf, isSome, read, filling};
 ghost use Rattle.policy_grammar.specs.Layout as Layout;
+ghost use Rattle.policy_reader.specs.Bodies.{BodyExactly};
 ghost use Rattle.policy_reader.specs.Inner.{extentOf};
 
 // The digests of an algorithm, which fill t: HashAlg, a count, and exactly that many digests of its length.
@@ -52,6 +53,29 @@ fn launch_extent(b: &[u8]) -> Extent
     further(2, digests_extent(&b[2..]))
 }
 
+// The body of an element of a type, which fills b.
+fn body_extent(kind: usize, b: &[u8]) -> Extent
+    ensures { λ r. ⌜ r ≡ extentOf (filling (Layout.body kind) (now (b .entry))) ⌝ }
+{
+    if kind == LAUNCH_TYPE {
+        return launch_extent(b);
+    }
+    if kind == STM_TYPE {
+        return digests_extent(b);
+    }
+    Extent::Size(b.len())
+}
+
+// Whether the bytes are a body of an element of the type by the grammar. It is the judge of the reader's elements, for one who writes them.
+pub fn fills_body(kind: usize, body: &[u8]) -> bool
+    ensures { λ r. ⌜ (r ≡ isSome (valueOf (filling (Layout.body kind) (now (body .entry))))) × BodyExactly kind (now (body .entry)) r ⌝ }
+{
+    match body_extent(kind, body) {
+        Extent::Size(_) => true,
+        Extent::Fault(_) => false,
+    }
+}
+
 // The element at the front of t. Its body is judged as the part of t that it is.
 fn first_extent(t: &[u8]) -> Extent
     ensures { λ r. ⌜ r ≡ extentOf (read Layout.element (now (t .entry))) ⌝ }
@@ -67,13 +91,7 @@ fn first_extent(t: &[u8]) -> Extent
         return Extent::Fault(0);
     }
     let kind = number(t, 4, 4);
-    if kind == LAUNCH_TYPE {
-        return further(12, launch_extent(&t[12..size]));
-    }
-    if kind == STM_TYPE {
-        return further(12, digests_extent(&t[12..size]));
-    }
-    Extent::Size(size)
+    further(12, body_extent(kind, &t[12..size]))
 }
 
 // The element that stands at `at` in t. It is handed all of t, so that a loop goes on by an offset and makes no slice for each element.

@@ -1,4 +1,4 @@
-// The reader of policy files: the number of a string with the place of its first fault, and the list and the element at an offset.
+// The reader of policy files: the number of a string with the place of its first fault, the list and the element at an offset, and whether bytes are a body.
 //
 // No public function asks anything of its caller: any slice of any length, and any offset. To walk an accepted string once, take `list_at` from
 // FIRST_LIST on, each list after the one before it, and `element_at` in the string up to the end of a list's elements; the laws of such a loop are in
@@ -12,6 +12,7 @@ mod numbers;
 
 pub use at_offset::element_at;
 pub use at_offset::list_at;
+pub use elements::fills_body;
 pub use file::read;
 
 // The offset of the first list of every file.

@@ -1,5 +1,5 @@
 -- `first_extent` meets its contract: one law for each answer.
-use Rattle.policy_reader.proofs.ElementTests.{element-outside, element-small, element-long, element-launch, element-stm, element-other}
+use Rattle.policy_reader.proofs.ElementTests.{element-outside, element-small, element-long, element-body}
 use Rattle.policy_reader.proofs.ReadExtents.{part-fits}
 use borrow.Author.Needs.{needs}
 use Rattle.policy_reader.proofs.elements.first_extent.Statement.{statement}
@@ -26,38 +26,20 @@ returns-3 c = search (needs, element-long)
 number-requires : tie.Need-number-requires
 number-requires c κs = search needs
 
-part-launch-extent-start : tie.Need-part-launch-extent-start
-part-launch-extent-start c = search needs
+part-body-extent-start : tie.Need-part-body-extent-start
+part-body-extent-start c = search needs
 
-part-launch-extent-end : tie.Need-part-launch-extent-end
-part-launch-extent-end c = search needs
+part-body-extent-end : tie.Need-part-body-extent-end
+part-body-extent-end c = search needs
 
-launch-extent-requires : tie.Need-launch-extent-requires
-launch-extent-requires c κs = search needs
+body-extent-requires : tie.Need-body-extent-requires
+body-extent-requires c κs = search needs
 
 further-requires : tie.Need-further-requires
 further-requires c κs = search (needs, part-fits)
 
 returns-4 : tie.Need-returns-4
-returns-4 c = search (needs, element-launch)
-
-part-digests-extent-start : tie.Need-part-digests-extent-start
-part-digests-extent-start c = search needs
-
-part-digests-extent-end : tie.Need-part-digests-extent-end
-part-digests-extent-end c = search needs
-
-digests-extent-requires : tie.Need-digests-extent-requires
-digests-extent-requires c κs = search needs
-
-further-requires-2 : tie.Need-further-requires-2
-further-requires-2 c κs = search (needs, part-fits)
-
-returns-5 : tie.Need-returns-5
-returns-5 c = search (needs, element-stm)
-
-returns-6 : tie.Need-returns-6
-returns-6 c = search (needs, element-other)
+returns-4 c = search (needs, element-body)
 
 pub first-extent-spec : {M : Type 1} → statement M
 first-extent-spec =
@@ -70,14 +52,8 @@ first-extent-spec =
     returns-2
     returns-3
     number-requires
-    part-launch-extent-start
-    part-launch-extent-end
-    launch-extent-requires
+    part-body-extent-start
+    part-body-extent-end
+    body-extent-requires
     further-requires
-    returns-4
-    part-digests-extent-start
-    part-digests-extent-end
-    digests-extent-requires
-    further-requires-2
-    returns-5
-    returns-6)
+    returns-4)

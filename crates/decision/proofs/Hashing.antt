@@ -1,5 +1,6 @@
 -- The digest of the measures joined, worked out list by list: the state holds the measures of the lists that were passed.
 use mathlib.Core.Path.{_≡_, refl, ap, sym, _∙_}
+use mathlib.Core.Bool.{false}
 use mathlib.Core.List.{List, [], _∷_, _++_, flatMap, append-assoc, append-nil}
 use Prim.Native.Nat.{ℕ}
 use Rattle.sha256.specs.declared.Running.{Running}
@@ -12,8 +13,9 @@ use Rattle.policy_grammar.specs.Grammar as Grammar
 use Rattle.policy_answers.specs.Seen.{seenList, listPart}
 use Rattle.policy_reader.proofs.Standing as kinds
 use Rattle.policy_reader.proofs.Walk.{Front, list-seen}
-use Rattle.decision.specs.Lists.{measuredBytes, measure, hashOf}
+use Rattle.decision.specs.Lists.{ofGrammar, listsOf, measuredBytes, measure, hashOf}
 use Rattle.decision.specs.Inner.{measuredIn, measuredSeen}
+use Rattle.decision.proofs.Walking.{not-accepted}
 
 -- what is measured where a list stands is what is measured of it
 measured-is : (l : PolicyList) (g : Signing) → measuredIn (listPart l) g ≡ measuredBytes l g
@@ -28,6 +30,11 @@ measure-is s at Kept e t b d p q =
     let l = t .first in
     let seen = ap (seenList s) (t .shown) ∙ list-seen s at l (t .others) (t .valid) (t .stand) in
     q ∙ ap sha256 (p ∙ ap measuredSeen seen ∙ measured-is l (l .signing))
+
+-- a file that is not of the grammar has none, and its hash is the digest of no bytes
+pub hash-of-none : (s d : List ℕ) → ofGrammar s ≡ false → d ≡ sha256 [] → d ≡ hashOf (listsOf s)
+unfolding hashOf flatMap
+hash-of-none s d h e = rw (not-accepted s h) e
 
 -- the state holds the measures of those that were passed
 pub record Hashing (all : List PolicyList) (state : Running) (rest : List PolicyList) : Type 0 where

@@ -1,19 +1,17 @@
 -- The lists of a file one after the other: the lowest that permits is the lowest of those that are left, counted from the number that was reached.
 use Prim.Native.Nat.{ℕ, _+_}
-use mathlib.Core.Path.{_≡_, refl, ap, sym, _∙_}
-use mathlib.Core.Bool.{Bool, true, false, true≢false}
+use mathlib.Core.Path.{_≡_, refl, sym, _∙_}
+use mathlib.Core.Bool.{Bool, true, false}
 use mathlib.Core.List.{List, []}
-use mathlib.Core.Option.{Option, some, none}
 use native.Mathlib.Numerals.{add-one}
 use Rattle.policy_answers.specs.declared.ListAnswer.{ListAnswer}
-use Rattle.policy_grammar.specs.Grammar.{PolicyList, Reading}
-use Rattle.policy_grammar.specs.Parser.{isSome}
-use Rattle.policy_grammar.specs.Decode.{accepted}
+use Rattle.policy_grammar.specs.Grammar.{PolicyList}
 use Rattle.policy_reader.proofs.Standing as kinds
 use Rattle.policy_reader.proofs.Walk.{Front}
 use Rattle.answer.specs.Answer.{noList}
 use Rattle.decision.specs.Lists.{Criteria, ofGrammar, permits, lowestFrom, lowestPermitting}
 use Rattle.decision.specs.Inner.{ListStands}
+use Rattle.decision.proofs.Walking.{not-accepted}
 
 pub record Lowest (k : Criteria) (all : List PolicyList) (i : ℕ) (rest : List PolicyList) : Type 0 where
   pub same : lowestFrom 0 (permits k) all ≡ lowestFrom i (permits k) rest
@@ -44,9 +42,5 @@ module _ (k : Criteria) (all : List PolicyList) where
 
 -- a file that is not of the grammar has no lists
 pub none-permits : (s : List ℕ) (k : Criteria) → ofGrammar s ≡ false → noList ≡ lowestPermitting s k
-unfolding ofGrammar lowestFrom lowestPermitting
-none-permits s k h = go (accepted s) refl
-  where
-    go : (o : Option Reading) → accepted s ≡ o → noList ≡ lowestPermitting s k
-    go none e = rw e
-    go (some r) e = absurd (true≢false (sym (ap isSome e) ∙ h))
+unfolding lowestFrom lowestPermitting
+none-permits s k h = rw (not-accepted s h)

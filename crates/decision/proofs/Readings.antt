@@ -17,7 +17,7 @@ use Rattle.policy_reader.proofs.Places.{accepted-sound, accepted-complete}
 use Rattle.policy_reader.proofs.Readings.{is-place}
 use Rattle.decision.specs.Lists.{ofGrammar, listsOf}
 use Rattle.decision.specs.Meaning.{OfGrammar, GrammarExactly, Reads, ListsExactly}
-use Rattle.decision.proofs.Walking.{short}
+use Rattle.decision.proofs.Walking.{short, not-accepted}
 
 pub grammar-exactly : GrammarExactly
 unfolding ofGrammar
@@ -32,12 +32,7 @@ lists-exactly file r reads = rw (accepted-complete r file (reads .makes) (reads 
 
 -- the place of a file that is not of the grammar, of a size that is read, is that of its first fault
 pub first-fault : (s : List ℕ) → leastFile ≤ length s → length s ≤ largestFile → ofGrammar s ≡ false → FirstFaultIn s (faultPlace s)
-unfolding ofGrammar
-first-fault s least most h = is-place s .first least most (go (accepted s) h)
-  where
-    go : (o : Option Reading) → isSome o ≡ false → o ≡ none
-    go none e = refl
-    go (some r) e = absurd (true≢false e)
+first-fault s least most h = is-place s .first least most (not-accepted s h)
 
 -- at most 8 lists
 pub few : {file : List ℕ} {r : Reading} → Reads file r → length (r .lists) ≤ 8

@@ -51,6 +51,15 @@ module _ (s : List ℕ) (f v : FileAnswer) (e : f ≡ fileAnswer s) (q : f ≡ v
       go none h = refused (sized s) refl
       go (some r) h = absurd (true≢false h)
 
+-- a file that is not of the grammar is not accepted, and so has no lists
+pub not-accepted : (s : List ℕ) → ofGrammar s ≡ false → accepted s ≡ none
+unfolding ofGrammar
+not-accepted s h = go (accepted s) h
+  where
+    go : (o : Option Reading) → isSome o ≡ false → o ≡ none
+    go none e = refl
+    go (some r) e = absurd (true≢false e)
+
 pub record Starts (s : List ℕ) : Type 0 where
   pub valid : All ValidList (listsOf s)
   pub stand : drop 36 s ≡ flatMap listBytes (listsOf s)

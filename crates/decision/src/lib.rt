@@ -1,4 +1,4 @@
-// What the policy file decides: where it stands in the window and whether its hash is right (26 to 28), and the lowest list that permits (29).
+// What the policy file decides: where it stands in the window, its hash and whether it is right (26 to 28), and the lowest list that permits (29).
 mod elements;
 mod measures;
 mod permits;
@@ -6,6 +6,7 @@ mod place;
 mod signing;
 
 pub use measures::file_fault;
+pub use measures::policy_hash;
 pub use permits::lowest_permitting;
 pub use place::file;
 pub use place::file_placed;

@@ -41,6 +41,17 @@ fn hash(file: &[u8]) -> [u8; 32]
     sha256::finish(state)
 }
 
+// The hash that the record of a file must have. A string that is not of the grammar has no lists, and its hash is the digest of no bytes.
+pub fn policy_hash(file: &[u8]) -> [u8; 32]
+    ensures { λ r. ⌜ r ≡ hashOf (listsOf (now (file .entry))) ⌝ }
+{
+    match policy_reader::read(file) {
+        FileAnswer::Accepted { .. } => hash(file),
+        FileAnswer::WrongSize => sha256::digest(&file[..0]),
+        FileAnswer::NotOfGrammar { .. } => sha256::digest(&file[..0]),
+    }
+}
+
 // Whether the record has the hash of the file.
 fn hash_matches(file: &[u8], record: &[u8]) -> bool
     requires { ⌜ ofGrammar (now file) ≡ true ⌝ }

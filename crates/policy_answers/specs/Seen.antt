@@ -11,7 +11,7 @@ use Rattle.policy_answers.specs.declared.PartAnswer.{PartAnswer}
 use Rattle.policy_answers.specs.declared.PartAnswer.the-variants as parts
 use Rattle.policy_answers.specs.declared.ElementAnswer.{ElementAnswer}
 use Rattle.policy_answers.specs.declared.ElementAnswer.the-variants.{Launch, Stm, Custom, Unjudged, Refused}
-use Rattle.policy_grammar.specs.Grammar.{Digests, Element, elementBytes, digestLength, launchType, customType, stmType, Signature, Signing, PolicyList, listBytes}
+use Rattle.policy_grammar.specs.Grammar.{Digests, Element, elementBytes, digestLength, launchType, customType, stmType, Signature, Signing, unsignedAlgorithm, PolicyList, listBytes}
 use Rattle.policy_grammar.specs.Grammar as Grammar
 use Rattle.policy_answers.specs.Parts.{partAt, bodyOf}
 
@@ -42,7 +42,7 @@ pub record ListPart : Type 0 where
 
 abbrev pub seenList : List ℕ → ListAnswer → Option ListPart
 seenList s (lists.Unsigned start size version es n) =
-    some (record { whole = partAt s start size; version = version; signatureAlgorithm = 0x0010; elementsSize = n; elements = partAt s es n; signing = Grammar.unsigned })
+    some (record { whole = partAt s start size; version = version; signatureAlgorithm = unsignedAlgorithm; elementsSize = n; elements = partAt s es n; signing = Grammar.unsigned })
 seenList s (lists.Signed start size version es n c k key signature) =
     some (record {
       whole = partAt s start size;

@@ -34,7 +34,7 @@ one-of n a b h = go (eqb n a) refl
     go true e = refl
     go false e = ⊎-elim (λ w. absurd (eqb-false n a e w)) (λ w. eq-eqb n b w) h
 
-which-of : (n a b : ℕ) → (eqb n a || eqb n b) ≡ true → (n ≡ a) ⊎ (n ≡ b)
+pub which-of : (n a b : ℕ) → (eqb n a || eqb n b) ≡ true → (n ≡ a) ⊎ (n ≡ b)
 which-of n a b h = go (eqb n a) refl h
   where
     go : (x : Bool) → eqb n a ≡ x → (x || eqb n b) ≡ true → (n ≡ a) ⊎ (n ≡ b)

@@ -157,8 +157,11 @@ pub record ValidSignature (g : Signature) : Type 0 where
   pub signature-sized : length (g .signature) ≡ g .keySize
 
 -- "signature algorithm (16) 0x0010 none or 0x0014 RSASSA"
+abbrev pub unsignedAlgorithm : ℕ
+unsignedAlgorithm = 0x0010
+
 abbrev pub ValidSigning : ℕ → Signing → Type 0
-ValidSigning algorithm unsigned = algorithm ≡ 0x0010
+ValidSigning algorithm unsigned = algorithm ≡ unsignedAlgorithm
 ValidSigning algorithm (signed g) = (algorithm ≡ 0x0014) × ValidSignature g
 
 pub record ValidList (l : PolicyList) : Type 0 where

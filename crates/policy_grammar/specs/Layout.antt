@@ -1,12 +1,12 @@
 -- The layout of a policy file: every field in file order, with its width and its rule. It decides which field is at fault: the rules on the bytes that
 -- are left change no string that is accepted, but say that "a size, or a 0x10 or 0x14 count, that reaches past what holds it is that field's fault".
 use Prim.Native.Nat.{ℕ, _+_, _*_, _-_}
-use mathlib.Core.Bool.{cond, _&&_, _||_}
+use mathlib.Core.Bool.{Bool, cond, _&&_, _||_}
 use mathlib.Core.List.{List, [], _∷_, _++_}
 use lib.ListN.{take, drop}
 use lib.Dec.{leb, eqb}
 use Rattle.field.specs.Field.{same}
-use Rattle.policy_grammar.specs.Grammar.{Digests, Body, Element, digestLength, launchType, stmType, Signing, PolicyList, Reading, markCharacters, mostLists}
+use Rattle.policy_grammar.specs.Grammar.{Digests, Body, Element, digestLength, launchType, stmType, Signing, unsignedAlgorithm, PolicyList, Reading, markCharacters, mostLists}
 use Rattle.policy_grammar.specs.Grammar as Grammar
 use Rattle.policy_grammar.specs.Format.{Format, _>>=_, done, number, string, any, anyBytes, rest, inside, times, many}
 
@@ -59,11 +59,14 @@ signed = do
 unfoldable pub signing : ℕ → Format Signing
 signing algorithm = cond (eqb algorithm 0x0014) signed (done Grammar.unsigned)
 
+abbrev pub knownVersion : ℕ → Bool
+knownVersion v = eqb v 0x0200 || eqb v 0x0201
+
 -- the elements size answers for the elements
 unfoldable pub list : Format PolicyList
 list = do
-  v ← number 2 (λ left v. eqb v 0x0200 || eqb v 0x0201)
-  a ← number 2 (λ left a. eqb a 0x0010 || eqb a 0x0014)
+  v ← number 2 (λ left v. knownVersion v)
+  a ← number 2 (λ left a. eqb a unsignedAlgorithm || eqb a 0x0014)
   n ← number 4 (λ left n. leb n left)
   es ← inside n (many n element)
   g ← signing a

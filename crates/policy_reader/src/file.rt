@@ -3,6 +3,8 @@ use crate::Extent;
 use crate::FIRST_LIST;
 use crate::LARGEST_FILE;
 use crate::LEAST_FILE;
+use crate::MARK;
+use crate::MOST_LISTS;
 use crate::lists::lists_extent;
 use crate::numbers::number;
 use policy_answers::FileAnswer;
@@ -10,9 +12,6 @@ ghost use mathlib.Core.Path.{_≡_};
 ghost use Rattle.policy_grammar.specs.Decode.{accepted};
 ghost use Rattle.policy_answers.specs.Answers.{fileAnswer};
 ghost use Rattle.policy_reader.specs.Readings.{ReadExactly};
-
-// The most lists of a file.
-const MOST_LISTS: usize = 8;
 
 // The offsets of the zeros behind the mark, and of the list count.
 const ZEROS: usize = 32;
@@ -29,7 +28,7 @@ fn tested(s: &[u8]) -> FileAnswer
     if LARGEST_FILE < s.len() {
         return FileAnswer::WrongSize;
     }
-    if !field::marked(s, 0, b"Intel(R) TXT LCP_POLICY_DATA\0\0\0\0") {
+    if !field::marked(s, 0, &MARK) {
         return FileAnswer::NotOfGrammar { place: 0 };
     }
     if !field::marked(s, ZEROS, b"\0\0\0") {

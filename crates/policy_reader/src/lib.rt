@@ -14,6 +14,10 @@ pub use at_offset::element_at;
 pub use at_offset::list_at;
 pub use elements::fills_body;
 pub use file::read;
+pub use lists::known_version;
+
+// The mark of every file: 28 characters and 4 zeros.
+pub const MARK: [u8; 32] = *b"Intel(R) TXT LCP_POLICY_DATA\0\0\0\0";
 
 // The offset of the first list of every file.
 pub const FIRST_LIST: usize = 36;
@@ -22,6 +26,9 @@ pub const FIRST_LIST: usize = 36;
 pub const LEAST_FILE: usize = FIRST_LIST;
 
 pub const LARGEST_FILE: usize = 65536;
+
+// The most lists of a file.
+pub const MOST_LISTS: usize = 8;
 
 // What is read at the front of a string: how many bytes it takes, or the offset of its first fault.
 pub(crate) enum Extent {

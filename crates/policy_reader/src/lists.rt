@@ -10,6 +10,7 @@ ghost use lib.ListN.{length, drop};
 ghost use Rattle.policy_grammar.specs.Format.{times};
 ghost use Rattle.policy_grammar.specs.Parser.{read, filling};
 ghost use Rattle.policy_grammar.specs.Layout as Layout;
+ghost use Rattle.policy_grammar.specs.Layout.{knownVersion};
 ghost use Rattle.policy_reader.specs.Inner.{extentOf};
 
 // What signs a list, at the front of t. The key size answers for the key and the signature.
@@ -33,6 +34,13 @@ fn signed_extent(t: &[u8]) -> Extent
     Extent::Size(end)
 }
 
+// Whether a list may have the version.
+pub fn known_version(version: usize) -> bool
+    ensures { λ r. ⌜ r ≡ knownVersion version ⌝ }
+{
+    one_of(version, 0x0200, 0x0201)
+}
+
 // The list at the front of t.
 fn first_extent(t: &[u8]) -> Extent
     ensures { λ r. ⌜ r ≡ extentOf (read Layout.list (now (t .entry))) ⌝ }
@@ -41,7 +49,7 @@ fn first_extent(t: &[u8]) -> Extent
         Field::Number(n) => n as usize,
         Field::Outside(at) => return Extent::Fault(at),
     };
-    if !one_of(version, 0x0200, 0x0201) {
+    if !known_version(version) {
         return Extent::Fault(0);
     }
     let algorithm = match field::read(t, 2, 2) {

@@ -11,6 +11,7 @@ use Rattle.sha256.specs.declared.Running.{Running}
 use Rattle.sha256_block.specs.Block.{compressOf, hash, hashBlocks}
 use Rattle.sha256.specs.Message.{H0, padding, digestOf, sha256}
 use Rattle.sha256.specs.State.{pending, remainder, started, Absorbed, finishOf, Holds}
+use Rattle.sha256.proofs.BigEndian.{length-digest}
 use Rattle.sha256.proofs.Padding.{padding-mod}
 
 -- blocks do not depend on what comes behind them
@@ -82,3 +83,15 @@ unfolding finishOf
 finish-holds s m holds =
     ap (λ (x : List ℕ). digestOf (hashBlocks (s .words) (pending s ++ x))) (ap padding (holds .total) ∙ padding-mod (length m))
     ∙ digest-parts m (s .words) (pending s) (holds .words) (holds .waits)
+
+-- a digest has 32 bytes: four for each of the eight words of a hash value
+length-hash : (n : ℕ) (h m : List ℕ) → length h ≡ 8 → length (hash n h m) ≡ 8
+unfolding hash compressOf
+length-hash zero h m l = l
+length-hash (suc n) h m l = length-hash n (compressOf h (take 64 m)) (drop 64 m) refl
+
+pub length-sha256 : (m : List ℕ) → length (sha256 m) ≡ 32
+unfolding sha256
+length-sha256 m =
+    let s : List ℕ = m ++ padding (length m) in
+    length-digest (hashBlocks H0 s) ∙ ap (λ (n : ℕ). 4 * n) (length-hash (length s / 64) H0 s refl)

@@ -17,8 +17,8 @@ enum-known-at c = search needs
 returns : tie.Need-returns
 returns c = search (needs, version-outside)
 
-one-of-requires : tie.Need-one-of-requires
-one-of-requires c κs = search needs
+known-version-requires : tie.Need-known-version-requires
+known-version-requires c κs = search needs
 
 returns-2 : tie.Need-returns-2
 returns-2 c = search (needs, version-unknown)
@@ -35,8 +35,8 @@ enum-known-at-2 c = search needs
 returns-3 : tie.Need-returns-3
 returns-3 c = search (needs, algorithm-outside)
 
-one-of-requires-2 : tie.Need-one-of-requires-2
-one-of-requires-2 c κs = search needs
+one-of-requires : tie.Need-one-of-requires
+one-of-requires c κs = search needs
 
 returns-4 : tie.Need-returns-4
 returns-4 c = search (needs, algorithm-unknown)
@@ -112,13 +112,13 @@ first-extent-spec =
     enum-known-n
     enum-known-at
     returns
-    one-of-requires
+    known-version-requires
     returns-2
     read-requires-2
     enum-known-n-2
     enum-known-at-2
     returns-3
-    one-of-requires-2
+    one-of-requires
     returns-4
     read-requires-3
     enum-known-n-3

@@ -404,15 +404,24 @@ fn refusals() {
     let ran = run(&["refusals", "29"]);
     assert!(ran.status == OK && ran.out.starts_with("29, no list\n") && ran.out.contains("0x13"), "{}", ran.out);
     assert!(is_json(&run(&["refusals", "--json"]).out) && is_json(&run(&["refusals", "7", "--json"]).out));
-    for wrong in ["0", "31", "x"] {
+    for wrong in ["0", "34", "x"] {
         assert_eq!(run(&["refusals", wrong]).status, MISUSE, "{wrong}");
     }
 }
 
 #[test]
 fn help_on_every_level() {
-    let levels: [&[&str]; 7] =
-        [&[], &["check"], &["policy"], &["capture"], &["capture", "make"], &["capture", "show"], &["refusals"]];
+    let levels: [&[&str]; 8] = [
+        &[],
+        &["check"],
+        &["policy"],
+        &["policy", "write"],
+        &["capture"],
+        &["capture", "make"],
+        &["capture", "show"],
+        &["refusals"],
+    ];
+    assert_eq!(run(&["policy", "show", "--help"]).out, run(&["policy", "--help"]).out);
     for level in levels {
         let words = [level, &["--help"]].concat();
         let ran = run(&words);
@@ -428,7 +437,7 @@ fn help_on_every_level() {
 #[test]
 fn misuse_says_what_to_do() {
     let example = stored("00-any-example.cap");
-    let cases: [(&[&str], &str); 22] = [
+    let cases: [(&[&str], &str); 31] = [
         (&[], "a command is missing"),
         (&["chekc"], "there is no command 'chekc'"),
         (&["check"], "numbers of the platform are missing"),
@@ -448,6 +457,15 @@ fn misuse_says_what_to_do() {
         (&["check", "--heap-base", "30000h"], "--heap-base: '30000h' is no number"),
         (&["policy"], "the policy file is missing"),
         (&["policy", "a", "b"], "there are 2 files"),
+        (&["policy", "show"], "the policy file is missing"),
+        (&["policy", "x", "--policy-record", "y"], "--policy-record is for --as-description; give both or none"),
+        (&["policy", "show", "--as-description", "-", "--policy-record", "-"], "are both -, and standard input is one file"),
+        (&["policy", "write", "--record", "r", "d"], "--output is missing; it takes the name of the policy file"),
+        (&["policy", "write", "-o", "f", "d"], "--record is missing; it takes the name of the policy record"),
+        (&["policy", "write", "-o", "f", "--record", "f", "d"], "--output and --record are both 'f'"),
+        (&["policy", "write", "-o", "-", "--record", "r", "--json", "d"], "where --json would write too"),
+        (&["policy", "write", "-o", "f", "--record", "r"], "the description is missing"),
+        (&["policy", "write", "-o", "f", "--record", "r", "/nowhere/d"], "there is no file '/nowhere/d' for the description"),
         (&["capture", "mak"], "make or show"),
         (&["capture", "make"], "--output is missing"),
         (&["capture", "make", "--stm", "s"], "a capture has no place for an STM image"),

@@ -191,6 +191,67 @@ fn every_field_of_an_element() {
     assert_eq!(found.collect::<Vec<_>>(), [&launches[..], &rest].concat());
 }
 
+#[test]
+fn misuse_says_what_to_do() {
+    let cases: [(&[&str], &str); 9] = [
+        (&["policy", "show"], "the policy file is missing"),
+        (&["policy", "x", "--policy-record", "y"], "--policy-record is for --as-description; give both or none"),
+        (&["policy", "show", "--as-description", "-", "--policy-record", "-"], "are both -, and standard input is one file"),
+        (&["policy", "write", "--record", "r", "d"], "--output is missing; it takes the name of the policy file"),
+        (&["policy", "write", "-o", "f", "d"], "--record is missing; it takes the name of the policy record"),
+        (&["policy", "write", "-o", "f", "--record", "f", "d"], "--output and --record are both 'f'"),
+        (&["policy", "write", "-o", "-", "--record", "r", "--json", "d"], "where --json would write too"),
+        (&["policy", "write", "-o", "f", "--record", "r"], "the description is missing"),
+        (&["policy", "write", "-o", "f", "--record", "r", "/nowhere/d"], "there is no file '/nowhere/d' for the description"),
+    ];
+    for (words, message) in cases {
+        let ran = run(words);
+        assert_eq!((ran.status, ran.out.as_str()), (MISUSE, ""), "{words:?}");
+        assert!(ran.err.starts_with("bleiwurzel: ") && ran.err.contains(message), "{words:?}: {}", ran.err);
+        assert!(ran.err.ends_with(" --help\n"), "{words:?}: {}", ran.err);
+    }
+}
+
+/// Descriptions with a wrong line, its number, and what is said of it.
+const WRONG_LINES: &[(&str, usize, &str)] = &[
+    ("lsit\n", 1, "no line begins with 'lsit'; lines begin with record, list, launch or custom"),
+    ("# x\n\nlaunch digest=00\n", 3, "digest: '00' has 1 byte; one of sha256 has 32, which are 64 digits"),
+    ("list\nlaunch\ncustom\n", 3, "body is missing; write body="),
+    ("launch\n", 1, "an element stands before the first list; write a line 'list' before it"),
+    ("list 0x0201\n", 1, "'0x0201' is not of the form key=value"),
+    ("list\nlaunch digest=@my image.bin\n", 2, "'image.bin' is not of the form key=value; nothing here has blanks in it"),
+    ("list control=0\n", 1, "a line 'list' has no key 'control'; its keys are version"),
+    (
+        "list\nlaunch hash=sha256\n",
+        2,
+        "a line 'launch' has no key 'hash'; its keys are control, sinit-min-version, reserved, hash-alg, digest",
+    ),
+    ("list version=1 version=1\n", 1, "'version' is given twice; give it once"),
+    ("record type=any\nrecord type=any\n", 2, "'type' is given twice; give it once"),
+    ("list version=65536\n", 1, "version: '65536' does not fit into 16 bits"),
+    ("list version=201h\n", 1, "version: '201h' is no number"),
+    ("record reserved=256\n", 1, "reserved: '256' does not fit into 8 bits"),
+    ("record control=0x100000000\n", 1, "control: '0x100000000' does not fit into 32 bits"),
+    ("record counters=1,2,3,4,5,6,7,8,9\n", 1, "counters: there are 9 counters; there is one for each of at most 8 lists"),
+    ("record counters=1,,2\n", 1, "counters: '' is no number"),
+    (
+        "record type=lst\n",
+        1,
+        "type: 'lst' is no number; write decimal digits, or 0x and hexadecimal digits; or write list or any",
+    ),
+    ("list\nlaunch hash-alg=md5\n", 2, "or write sha1, sha256, sha384, sha512 or sm3-256"),
+    ("list\nlaunch hash-alg=sha1 digest=@five.bin\n", 2, "of an image only sha256 is worked out; write the digits of its sha1"),
+    ("list\nlaunch digest=@five.bin\n", 2, "'five.bin' has 5000 bytes, and an image is whole pages of 4096 bytes"),
+    ("list\nlaunch digest=@empty.bin\n", 2, "'empty.bin' has 0 bytes, and an image is whole pages of 4096 bytes"),
+    ("list\nlaunch digest=@none.bin\n", 2, "none.bin' for the image; look at the path"),
+    ("list\ncustom body=@none.bin\n", 2, "none.bin' for the body; look at the path"),
+    ("list\ncustom body=@-\n", 2, "/-' for the body; look at the path"),
+    ("list\ncustom body=123\n", 2, "body: '123' is no string of bytes; write two hexadecimal digits for each byte, without 0x"),
+    ("list\ncustom body=0x12\n", 2, "body: '0x12' is no string of bytes"),
+    ("list\ncustom body=é\n", 2, "body: 'é' is no string of bytes"),
+    ("list\nlaunch hash-alg=sha384 digest=00\n", 2, "one of sha384 has 48, which are 96 digits"),
+];
+
 /// What is said of a line that cannot be read: where it stands, what is wrong and what is accepted. Nothing is written.
 #[test]
 fn wrong_lines() {
@@ -198,55 +259,10 @@ fn wrong_lines() {
     fs::write(place.folder.join("five.bin"), vec![0; 5000]).expect("a file");
     fs::write(place.folder.join("empty.bin"), b"").expect("a file");
     let before = [place.names(), vec!["policy.txt".to_string()]].concat();
-    let long = "00".repeat(31);
-    let cases = [
-        ("lsit\n", 1, "no line begins with 'lsit'; lines begin with record, list, launch or custom"),
-        ("# x\n\nlaunch digest=00\n", 3, "digest: '00' has 1 byte; one of sha256 has 32, which are 64 digits"),
-        ("list\nlaunch\ncustom\n", 3, "body is missing; write body="),
-        ("launch\n", 1, "an element stands before the first list; write a line 'list' before it"),
-        ("list 0x0201\n", 1, "'0x0201' is not of the form key=value"),
-        ("list\nlaunch digest=@my image.bin\n", 2, "'image.bin' is not of the form key=value; nothing here has blanks in it"),
-        ("list control=0\n", 1, "a line 'list' has no key 'control'; its keys are version"),
-        (
-            "list\nlaunch hash=sha256\n",
-            2,
-            "a line 'launch' has no key 'hash'; its keys are control, sinit-min-version, reserved, hash-alg, digest",
-        ),
-        ("list version=1 version=1\n", 1, "'version' is given twice; give it once"),
-        ("record type=any\nrecord type=any\n", 2, "'type' is given twice; give it once"),
-        ("list version=65536\n", 1, "version: '65536' does not fit into 16 bits"),
-        ("list version=201h\n", 1, "version: '201h' is no number"),
-        ("record reserved=256\n", 1, "reserved: '256' does not fit into 8 bits"),
-        ("record control=0x100000000\n", 1, "control: '0x100000000' does not fit into 32 bits"),
-        ("record counters=1,2,3,4,5,6,7,8,9\n", 1, "counters: there are 9 counters; there is one for each of at most 8 lists"),
-        ("record counters=1,,2\n", 1, "counters: '' is no number"),
-        (
-            "record type=lst\n",
-            1,
-            "type: 'lst' is no number; write decimal digits, or 0x and hexadecimal digits; or write list or any",
-        ),
-        ("list\nlaunch hash-alg=md5\n", 2, "or write sha1, sha256, sha384, sha512 or sm3-256"),
-        (
-            "list\nlaunch hash-alg=sha1 digest=@five.bin\n",
-            2,
-            "of an image only sha256 is worked out; write the digits of its sha1",
-        ),
-        ("list\nlaunch digest=@five.bin\n", 2, "'five.bin' has 5000 bytes, and an image is whole pages of 4096 bytes"),
-        ("list\nlaunch digest=@empty.bin\n", 2, "'empty.bin' has 0 bytes, and an image is whole pages of 4096 bytes"),
-        ("list\nlaunch digest=@none.bin\n", 2, "none.bin' for the image; look at the path"),
-        ("list\ncustom body=@none.bin\n", 2, "none.bin' for the body; look at the path"),
-        ("list\ncustom body=@-\n", 2, "/-' for the body; look at the path"),
-        (
-            "list\ncustom body=123\n",
-            2,
-            "body: '123' is no string of bytes; write two hexadecimal digits for each byte, without 0x",
-        ),
-        ("list\ncustom body=0x12\n", 2, "body: '0x12' is no string of bytes"),
-        ("list\ncustom body=é\n", 2, "body: 'é' is no string of bytes"),
-        ("list\nlaunch hash-alg=sha384 digest=00\n", 2, "one of sha384 has 48, which are 96 digits"),
-        (&format!("list\nlaunch digest={long} digest={long}0000\n"), 2, "has 31 bytes; one of sha256 has 32"),
-    ];
-    for (text, line, message) in cases {
+    let digest = "00".repeat(31);
+    let cut = format!("list\nlaunch digest={digest} digest={digest}0000\n");
+    let of_two = (cut.as_str(), 2, "has 31 bytes; one of sha256 has 32");
+    for (text, line, message) in WRONG_LINES.iter().copied().chain([of_two]) {
         let ran = place.write(text, &[]);
         assert_eq!((ran.status, ran.out.as_str()), (MISUSE, ""), "{text}");
         let begin = format!("bleiwurzel: {}:{line}: ", place.text);
@@ -283,33 +299,34 @@ fn long_files() {
     assert_eq!(file[62..], plain_sha256::digest_in_parts(&vec![0; MOST_PAGES * PAGE], 0));
 }
 
+/// Descriptions that the library refuses, the number, the line and what is said of it, what was expected and what was found.
+const REFUSED_DESCRIPTIONS: &[(&str, u32, &str, &str, &str)] = &[
+    ("record version=1\n", 31, "policy.txt', the lists", "1 to 8 lists, each begun by a line 'list'", "none"),
+    ("list\nlist\nlist\nlist\nlist\nlist\nlist\nlist\nlist\n", 31, "policy.txt:9, list 8", "at most 8 lists", "9 lists"),
+    ("list\n\nlist version=0x0202\n", 31, "policy.txt:3, the version of list 1", "0x0200 or 0x0201", "0x0202"),
+    ("list version=0x01ff\n", 31, "policy.txt:1, the version of list 0", "0x0200 or 0x0201", "0x01ff"),
+    (
+        "list\ncustom body=\nlaunch hash-alg=10 digest=00\n",
+        31,
+        "policy.txt:3, the hash algorithm",
+        "sha1, sha256, sha384, sha512 or sm3-256",
+        "0x000a",
+    ),
+    (
+        "list\ncustom body=@body.bin\nlist\ncustom body=@body.bin # here\nlaunch\n",
+        32,
+        "policy.txt:4, with which the file grows too long",
+        "at most 65536 bytes in the policy file",
+        "120076 bytes up to here, 120094 in all",
+    ),
+];
+
 /// What the library refuses has its number, and the line to which it can be led back. Nothing is written.
 #[test]
 fn refused_descriptions() {
     let place = Place::new("refused_descriptions");
     fs::write(place.folder.join("body.bin"), vec![0; 60_000]).expect("a body");
-    let nine = "list\n".repeat(9);
-    let cases = [
-        ("record version=1\n", 31, "policy.txt', the lists", "1 to 8 lists, each begun by a line 'list'", "none"),
-        (&nine, 31, "policy.txt:9, list 8", "at most 8 lists", "9 lists"),
-        ("list\n\nlist version=0x0202\n", 31, "policy.txt:3, the version of list 1", "0x0200 or 0x0201", "0x0202"),
-        ("list version=0x01ff\n", 31, "policy.txt:1, the version of list 0", "0x0200 or 0x0201", "0x01ff"),
-        (
-            "list\ncustom body=\nlaunch hash-alg=10 digest=00\n",
-            31,
-            "policy.txt:3, the hash algorithm",
-            "sha1, sha256, sha384, sha512 or sm3-256",
-            "0x000a",
-        ),
-        (
-            "list\ncustom body=@body.bin\nlist\ncustom body=@body.bin # here\nlaunch\n",
-            32,
-            "policy.txt:4, with which the file grows too long",
-            "at most 65536 bytes in the policy file",
-            "120076 bytes up to here, 120094 in all",
-        ),
-    ];
-    for (text, number, line, expected, found) in cases {
+    for (text, number, line, expected, found) in REFUSED_DESCRIPTIONS {
         let ran = place.write(text, &[]);
         let json = place.write(text, &["--json"]);
         assert_eq!((ran.status, ran.err.as_str(), json.status), (REFUSED, "", REFUSED), "{text}");
@@ -318,7 +335,7 @@ fn refused_descriptions() {
         assert!(words.contains(&format!("{line} expected {expected} found {found} ")), "{text}: {}", ran.out);
         assert!(ran.out.lines().all(|line| line.chars().count() <= 80 || line.contains('/')), "{}", ran.out);
         let part = format!("\"number\": {number}, \"place\": 0,");
-        assert!(is_json(&json.out) && json.out.contains(&part) && json.out.contains(line), "{text}: {}", json.out);
+        assert!(is_json(&json.out) && json.out.contains(&part) && json.out.contains(*line), "{text}: {}", json.out);
         assert_eq!(place.names(), ["body.bin", "policy.txt"], "{text}");
     }
     // A file of the most bytes, and one with a byte more.
@@ -459,5 +476,23 @@ fn show_may_be_left_out() {
             let output = tool().args(words).current_dir(&place.folder).output().expect("the tool runs");
             assert_eq!(ran(output).out, shown.out, "{words:?}");
         }
+    }
+}
+
+/// The command that is named shows the file, whatever its name is.
+#[test]
+fn the_suggested_command_can_be_run() {
+    let place = Place::new("the_suggested_command");
+    fs::write(&place.text, "list\n").expect("a description");
+    for name in ["plain.data", "show", "write", "-x", "--json", "two words", "it's $(x)"] {
+        let words = [&format!("--output={name}"), "--record=policy.pol", "policy.txt"];
+        let made = tool().args(["policy", "write"]).args(words).current_dir(&place.folder).output().expect("the tool runs");
+        let made = ran(made);
+        assert_eq!((made.status, made.err.as_str()), (OK, ""), "{name}");
+        let command = made.out.lines().find_map(|line| line.strip_prefix("Look at it: bleiwurzel ")).expect("a command");
+        let script = format!("cd \"$1\" && \"$0\" {command}");
+        let shown = ran(in_bash(&script, &[&place.folder]));
+        assert!(shown.status == OK && shown.out.starts_with("accepted, 44 bytes\n"), "{command}: {}", shown.err);
+        fs::remove_file(&place.record).expect("the record goes");
     }
 }

@@ -323,31 +323,30 @@ fn the_texts_say_the_same_limits() {
         ("docs/REFUSALS.md", format!("at most {tables} pages; the entry that names the {}st is refused.", tables + 1)),
         ("docs/REFUSALS.md", format!("- {pages} pages need {} page tables,", MOST_PAGES / 512)),
         ("rust/bleiwurzel/src/cli/help.rs", format!("at most {window} MiB:")),
-        ("rust/bleiwurzel/src/cli/help.rs", format!("the policy record of {RECORD_LENGTH} bytes that is to be written")),
-        ("rust/bleiwurzel/src/cli/help.rs", format!("begins a list; 1 to {} of them", policy::MOST_LISTS)),
-        ("rust/bleiwurzel/src/cli/help.rs", format!("whole pages of {PAGE_SIZE} bytes")),
-        ("docs/REFUSALS.md", format!("A description has 1 to {} lists,", policy::MOST_LISTS)),
-        (
-            "docs/REFUSALS.md",
-            format!(
-                "{} bytes, {} more for each list, {} more for each element",
-                policy::FIRST_LIST,
-                policy::LIST_HEAD,
-                policy::ELEMENT_HEAD
-            ),
-        ),
-        ("docs/REFUSALS.md", format!("and all bodies are at most {} together", grouped(policy::MOST))),
-        (
-            "docs/REFUSALS.md",
-            format!(
-                "one launch element alone has place for {} of SHA-256",
-                grouped((policy::MOST - policy::FIRST_LIST - policy::LIST_HEAD - policy::ELEMENT_HEAD - 6) / 32)
-            ),
-        ),
-        ("docs/REFUSALS.md", format!("Lend {} bytes, `BLEIWURZEL_MOST_POLICY`", grouped(policy::MOST))),
     ];
-    for (file, said) in said {
-        let text = std::fs::read_to_string(top().join(file)).expect("a text");
-        assert!(text.contains(&said), "{file} does not say: {said}");
-    }
+    said.iter().for_each(|(file, said)| hold_said(file, said));
+}
+
+fn hold_said(file: &str, said: &str) {
+    let text = std::fs::read_to_string(top().join(file)).expect("a text");
+    assert!(text.contains(said), "{file} does not say: {said}");
+}
+
+/// The sizes of what is written, as sentences of several texts say them.
+#[test]
+fn the_texts_say_the_same_sizes_of_policy_files() {
+    let (lists, before, most) = (policy::MOST_LISTS, policy::FIRST_LIST, grouped(policy::MOST));
+    let (list, element) = (policy::LIST_HEAD, policy::ELEMENT_HEAD);
+    let digests = grouped((policy::MOST - before - list - element - 6) / 32);
+    let said = [
+        ("rust/bleiwurzel/src/cli/help.rs", format!("the policy record of {RECORD_LENGTH} bytes that is to be written")),
+        ("rust/bleiwurzel/src/cli/help.rs", format!("begins a list; 1 to {lists} of them")),
+        ("rust/bleiwurzel/src/cli/help.rs", format!("whole pages of {PAGE_SIZE} bytes")),
+        ("docs/REFUSALS.md", format!("A description has 1 to {lists} lists,")),
+        ("docs/REFUSALS.md", format!("{before} bytes, {list} more for each list, {element} more for each element")),
+        ("docs/REFUSALS.md", format!("and all bodies are at most {most} together")),
+        ("docs/REFUSALS.md", format!("one launch element alone has place for {digests} of SHA-256")),
+        ("docs/REFUSALS.md", format!("Lend {most} bytes, `BLEIWURZEL_MOST_POLICY`")),
+    ];
+    said.iter().for_each(|(file, said)| hold_said(file, said));
 }

@@ -437,7 +437,7 @@ fn help_on_every_level() {
 #[test]
 fn misuse_says_what_to_do() {
     let example = stored("00-any-example.cap");
-    let cases: [(&[&str], &str); 31] = [
+    let cases: [(&[&str], &str); 22] = [
         (&[], "a command is missing"),
         (&["chekc"], "there is no command 'chekc'"),
         (&["check"], "numbers of the platform are missing"),
@@ -457,15 +457,6 @@ fn misuse_says_what_to_do() {
         (&["check", "--heap-base", "30000h"], "--heap-base: '30000h' is no number"),
         (&["policy"], "the policy file is missing"),
         (&["policy", "a", "b"], "there are 2 files"),
-        (&["policy", "show"], "the policy file is missing"),
-        (&["policy", "x", "--policy-record", "y"], "--policy-record is for --as-description; give both or none"),
-        (&["policy", "show", "--as-description", "-", "--policy-record", "-"], "are both -, and standard input is one file"),
-        (&["policy", "write", "--record", "r", "d"], "--output is missing; it takes the name of the policy file"),
-        (&["policy", "write", "-o", "f", "d"], "--record is missing; it takes the name of the policy record"),
-        (&["policy", "write", "-o", "f", "--record", "f", "d"], "--output and --record are both 'f'"),
-        (&["policy", "write", "-o", "-", "--record", "r", "--json", "d"], "where --json would write too"),
-        (&["policy", "write", "-o", "f", "--record", "r"], "the description is missing"),
-        (&["policy", "write", "-o", "f", "--record", "r", "/nowhere/d"], "there is no file '/nowhere/d' for the description"),
         (&["capture", "mak"], "make or show"),
         (&["capture", "make"], "--output is missing"),
         (&["capture", "make", "--stm", "s"], "a capture has no place for an STM image"),

@@ -15,8 +15,8 @@ Usage:
                             number, that one
 
 Every command has its own --help with examples, and --json for programs. A FILE
-of - is standard input, or standard output for --output. Behind the command (of
-captures behind make or show) -- ends its flags.
+of - is standard input, or standard output for --output and --record. Behind the
+command (of captures behind make or show) -- ends its flags.
 
 Exit status: 0 permitted (or shown, written), 1 refused, 2 no answer; then
 standard error says what to do. Of check 0 means permitted and nothing else.

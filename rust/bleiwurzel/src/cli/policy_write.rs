@@ -10,6 +10,7 @@ use bleiwurzel::policy::{self, Written};
 use bleiwurzel::text::{bytes, digits};
 use bleiwurzel::{Refusal, RECORD_FIELDS};
 use std::ffi::{OsStr, OsString};
+use std::os::unix::ffi::OsStrExt;
 use std::path::Path;
 
 const HELP: &str = "bleiwurzel policy write";
@@ -177,5 +178,8 @@ fn wrote(outputs: &[Output; 2], written: &Written, json: bool) -> String {
         .line();
     }
     let said = |output: &Output| format!("wrote {}, {}\n", names::shown(output.path), bytes(output.bytes.len() as u64));
-    format!("{}{}PolicyHash {hash}\nLook at it: bleiwurzel policy {}\n", said(file), said(record), names::quoted(file.path))
+    // A name that looks like a flag stands behind the end of the flags.
+    let end = if file.path.as_bytes().starts_with(b"-") { "-- " } else { "" };
+    let show = format!("bleiwurzel policy show {end}{}", names::quoted(file.path));
+    format!("{}{}PolicyHash {hash}\nLook at it: {show}\n", said(file), said(record))
 }

@@ -84,7 +84,9 @@ fn name_all(files: &[Temporary], outputs: &[&Output], help: &'static str) -> Res
     for (i, (file, output)) in files.iter().zip(outputs).enumerate() {
         if let Err(error) = name(&file.0, Path::new(output.path)) {
             let message = unwritten(output, &error, help);
-            outputs[..i].iter().for_each(|before| drop(fs::remove_file(before.path)));
+            for before in &outputs[..i] {
+                let _ = fs::remove_file(before.path);
+            }
             return message;
         }
     }

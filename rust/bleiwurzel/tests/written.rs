@@ -344,14 +344,14 @@ fn plain_size(numbers: &[u32], bodies: &[u8]) -> Option<u64> {
             }
         }
     }
-    (left.next().is_none() && bodies.is_empty()).then(|| size)
+    (left.next().is_none() && bodies.is_empty()).then_some(size)
 }
 
 fn plain_launch(body: &[u8]) -> Option<()> {
     let digests = body.get(6..)?;
     let (hash_alg, count) = (u16::from_le_bytes([body[2], body[3]]), usize::from(u16::from_le_bytes([body[4], body[5]])));
     let (_, length) = ALGORITHMS.iter().find(|(known, _)| *known == hash_alg)?;
-    (digests.len() == count * length).then(|| ())
+    (digests.len() == count * length).then_some(())
 }
 
 /// Numbers that look random and are the same in each run.
@@ -418,6 +418,7 @@ fn many_descriptions_by_plain_rules() {
 #[test]
 fn every_stored_file_is_written_again() {
     let files = described_files();
+    let image = image(&Shape::default());
     let (mut alone, mut of_captures) = (0, 0);
     for Stored { name, file, lists, record } in &files {
         let (numbers, bodies) = flattened(lists);
@@ -426,6 +427,8 @@ fn every_stored_file_is_written_again() {
         let fields = record.as_ref().map_or([0xa5; RECORD_FIELDS], |(record, _)| fields_of(record));
         let written = policy::write(lists, &fields).expect("a file");
         assert!(written.file == *file, "{name}: other bytes");
+        let (number, _) = judged(&image, lists);
+        assert_eq!(number, 29, "{name}: rules 26 to 28 hold, and no list names this image");
         match record {
             None => alone += 1,
             Some((record, right)) => {
@@ -456,6 +459,17 @@ fn the_records_of_tboot() {
     }
 }
 
+/// The check's number, and the list, for an image under the policy file and the record that are written of these lists.
+fn judged(image: &Image, lists: &[ListDescription]) -> (u32, u32) {
+    let written = policy::write(lists, &RecordFields::default().bytes()).expect("a file");
+    let mut image = with_file(image, &written.file, &[0; 32]);
+    let mut pages = vec![0; MOST_PAGES];
+    assert_eq!(answer(&image.parts(), &image.platform, &mut pages).number, 28, "another PolicyHash");
+    image.record = written.record.to_vec();
+    let given = answer(&image.parts(), &image.platform, &mut pages);
+    (given.number, given.list)
+}
+
 /// The check permits an image under what was written for it: the record by rules 23 to 25, the file by 26 and 27, PolicyHash by 28, and the list.
 #[test]
 fn the_check_takes_what_was_written() {
@@ -463,23 +477,9 @@ fn the_check_takes_what_was_written() {
     let digest = plain_sha256::digest_in_parts(&image.bytes(), 0);
     let launch = Launch { sinit_min_version: 5, reserved: 0, digests: Digests { hash_alg: policy::SHA256, count: 1 } };
     let mut lists = several();
+    assert_eq!(judged(&image, &lists).0, 29, "no list names the image");
     lists.push(ListDescription { version: 0x0201, elements: vec![ElementDescription::launch(0, &launch, &digest), custom(9)] });
-    let written = policy::write(&lists, &RecordFields::default().bytes()).expect("a file");
-    let mut image = with_file(&image, &written.file, &[0; 32]);
-    let mut pages = vec![0; MOST_PAGES];
-    assert_eq!(answer(&image.parts(), &image.platform, &mut pages).number, 28, "another PolicyHash");
-    image.record = written.record.to_vec();
-    let given = answer(&image.parts(), &image.platform, &mut pages);
-    assert_eq!((given.number, given.list), (0, 3));
-    lists.pop();
-    let written = policy::write(&lists, &RecordFields::default().bytes()).expect("a file");
-    let mut image = with_file(&image, &written.file, &[0; 32]);
-    image.record = written.record.to_vec();
-    assert_eq!(
-        answer(&image.parts(), &image.platform, &mut pages).number,
-        29,
-        "no list names the image, and PolicyHash is right"
-    );
+    assert_eq!(judged(&image, &lists), (0, 3));
 }
 
 #[test]

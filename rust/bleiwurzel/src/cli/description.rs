@@ -1,11 +1,19 @@
 //! The text form of what a policy file is written from: a line for the record, for each list and for each element, of words `key=value`.
 //! `help::POLICY_WRITE` says it to people.
 
-use super::{files, names, platform};
-use bleiwurzel::policy::{self, Body, Digests, Element, ElementDescription, Launch, ListDescription, RecordFields};
-use bleiwurzel::text::{bytes, digits};
+mod keys;
+mod printed;
+mod words;
+
+use super::files;
+use bleiwurzel::policy::{self, Digests, ElementDescription, Launch, ListDescription, RecordFields};
+use bleiwurzel::text::bytes;
 use bleiwurzel::{sha256, MOST_PAGES, PAGE_SIZE};
+use keys::*;
+pub use printed::{lists_text, record_text};
 use std::path::Path;
+pub use words::algorithm_names;
+use words::*;
 
 /// What a text describes.
 #[derive(Default)]
@@ -16,153 +24,8 @@ pub struct Described {
     pub lines: Vec<(usize, Vec<usize>)>,
 }
 
-/// The algorithms of digests, in the order in which they are named to people.
-const ALGORITHMS: [u16; 5] = [0x0004, policy::SHA256, 0x000c, 0x000d, 0x0012];
-
 /// The most bytes of all bodies that are kept in memory: far more than a policy file holds, which the library is to say.
 const MOST_BODIES: usize = 1 << 20;
-
-const VERSION: &str = "version";
-const HASH_ALG: &str = "hash-alg";
-const SINIT_MIN_VERSION: &str = "sinit-min-version";
-const CONTROL: &str = "control";
-const RESERVED: &str = "reserved";
-const DIGEST: &str = "digest";
-const BODY: &str = "body";
-const TYPE: &str = "type";
-const COUNTERS: &str = "counters";
-const MAX_SINIT_MIN_VERSION: &str = "max-sinit-min-version";
-const LCP_HASH_ALG_MASK: &str = "lcp-hash-alg-mask";
-const LCP_SIGN_ALG_MASK: &str = "lcp-sign-alg-mask";
-const RESERVED2: &str = "reserved2";
-
-/// What a line begins with, and the keys behind it.
-const RECORD: (&str, &[&str]) = (
-    "record",
-    &[
-        VERSION,
-        HASH_ALG,
-        TYPE,
-        SINIT_MIN_VERSION,
-        COUNTERS,
-        CONTROL,
-        MAX_SINIT_MIN_VERSION,
-        RESERVED,
-        LCP_HASH_ALG_MASK,
-        LCP_SIGN_ALG_MASK,
-        RESERVED2,
-    ],
-);
-const LIST: (&str, &[&str]) = ("list", &[VERSION]);
-const LAUNCH: (&str, &[&str]) = ("launch", &[CONTROL, SINIT_MIN_VERSION, RESERVED, HASH_ALG, DIGEST]);
-const CUSTOM: (&str, &[&str]) = ("custom", &[CONTROL, BODY]);
-
-/// The words behind the first of a line.
-struct Words<'a>(Vec<(&'a str, &'a str)>);
-
-impl<'a> Words<'a> {
-    /// Reads the words; all keys are of these, and only a digest is given several times.
-    fn of(words: impl Iterator<Item = &'a str>, (line, keys): (&str, &[&str])) -> Result<Self, String> {
-        let mut read = Words(Vec::new());
-        for word in words {
-            let (key, value) = word.split_once('=').ok_or_else(|| {
-                format!("'{}' is not of the form key=value; nothing here has blanks in it, no name of a file either", shown(word))
-            })?;
-            if !keys.contains(&key) {
-                return Err(format!("a line '{line}' has no key '{}'; its keys are {}", shown(key), keys.join(", ")));
-            }
-            if key != DIGEST && read.one(key).is_some() {
-                return Err(twice(key));
-            }
-            read.0.push((key, value));
-        }
-        Ok(read)
-    }
-
-    fn one(&self, key: &str) -> Option<&'a str> {
-        self.0.iter().find(|(given, _)| *given == key).map(|(_, value)| *value)
-    }
-
-    /// Gives a field its value where the key is given.
-    fn set<T>(&self, key: &str, field: &mut T, read: impl Fn(&str) -> Result<T, String>) -> Result<(), String> {
-        if let Some(value) = self.one(key) {
-            *field = read(value).map_err(|message| format!("{key}: {message}"))?;
-        }
-        Ok(())
-    }
-}
-
-fn shown(text: &str) -> String {
-    names::shown_text(text)
-}
-
-fn twice(key: &str) -> String {
-    format!("'{key}' is given twice; give it once")
-}
-
-/// A number that has at most the bits of its field.
-fn number<T: TryFrom<u64>>(text: &str) -> Result<T, String> {
-    let bits = 8 * std::mem::size_of::<T>() as u32;
-    let wide = || format!("'{}' does not fit into {bits} bits", shown(text));
-    platform::number(text, bits).and_then(|number| T::try_from(number).map_err(|_| wide()))
-}
-
-/// Up to eight numbers; those that are left out are 0.
-fn counters(text: &str) -> Result<[u16; 8], String> {
-    let given = text.split(',').map(number).collect::<Result<Vec<u16>, String>>()?;
-    let mut counters = [0; 8];
-    match counters.get_mut(..given.len()) {
-        Some(front) => front.copy_from_slice(&given),
-        None => return Err(format!("there are {} counters; there is one for each of at most 8 lists", given.len())),
-    }
-    Ok(counters)
-}
-
-fn policy_type(text: &str) -> Result<u8, String> {
-    match text {
-        "list" => Ok(0),
-        "any" => Ok(1),
-        _ => number(text).map_err(|message| format!("{message}; or write list or any")),
-    }
-}
-
-/// An algorithm by its name, or by its number, which is not judged here.
-fn hash_alg(text: &str) -> Result<u16, String> {
-    match ALGORITHMS.iter().find(|known| algorithm_name(**known) == text) {
-        Some(known) => Ok(*known),
-        None => number(text).map_err(|message| format!("{message}; or write {}", algorithm_names())),
-    }
-}
-
-/// The name of an algorithm, or its number where it has none.
-fn algorithm_name(hash_alg: u16) -> String {
-    match policy::algorithm(hash_alg) {
-        Some((_, name)) => name.to_lowercase().replace('_', "-"),
-        None => format!("{hash_alg:#06x}"),
-    }
-}
-
-/// All names, for people.
-pub fn algorithm_names() -> String {
-    let names = ALGORITHMS.map(algorithm_name);
-    format!("{} or {}", names[..4].join(", "), names[4])
-}
-
-/// Bytes as hexadecimal digits, two for one.
-fn hexadecimal(text: &str) -> Result<Vec<u8>, String> {
-    let wrong = || {
-        let cut: String = text.chars().take(80).collect();
-        format!(
-            "'{}' is no string of bytes; write two hexadecimal digits for each byte, without 0x, or @ and the name of a file",
-            shown(&cut)
-        )
-    };
-    if text.len() % 2 != 0 || !text.bytes().all(|digit| digit.is_ascii_hexdigit()) {
-        return Err(wrong());
-    }
-    let byte = |at: usize| u8::from_str_radix(&text[at..at + 2], 16).map_err(|_| wrong());
-    (0..text.len()).step_by(2).map(byte).collect()
-}
 
 /// Reads a text; names of files in it count from this folder. Gives the line that is wrong, and what to do.
 pub fn read(text: &str, folder: &Path, help: &'static str) -> Result<Described, (usize, String)> {
@@ -329,59 +192,39 @@ impl<'a> Reader<'a> {
     }
 }
 
-/// The line of a record.
-pub fn record_text(fields: &RecordFields) -> String {
-    let policy_type = match fields.policy_type {
-        0 => "list".to_string(),
-        1 => "any".to_string(),
-        other => other.to_string(),
-    };
-    let counters = fields.counters.map(|counter| counter.to_string()).join(",");
-    let algorithm = algorithm_name(fields.hash_alg);
-    let first = format!(
-        "{} {VERSION}={:#06x} {HASH_ALG}={algorithm} {TYPE}={policy_type} {SINIT_MIN_VERSION}={} {COUNTERS}={counters} {CONTROL}={:#010x}\n",
-        RECORD.0, fields.version, fields.sinit_min_version, fields.control
-    );
-    let second = format!(
-        "{} {MAX_SINIT_MIN_VERSION}={} {RESERVED}={} {LCP_HASH_ALG_MASK}={:#06x} {LCP_SIGN_ALG_MASK}={:#010x} {RESERVED2}={:#010x}\n",
-        RECORD.0,
-        fields.max_sinit_min_version,
-        fields.reserved,
-        fields.lcp_hash_alg_mask,
-        fields.lcp_sign_alg_mask,
-        fields.reserved2
-    );
-    first + &second
-}
+#[cfg(test)]
+mod tests {
+    use super::*;
 
-/// The lines of all lists of a policy file, whose lists are unsigned and hold no other elements than these lines can say.
-pub fn lists_text(file: &[u8]) -> String {
-    let mut text = String::new();
-    for (list, elements) in policy::lists(file) {
-        text.push_str(&format!("{} {VERSION}={:#06x}\n", LIST.0, list.version));
-        elements.iter().for_each(|element| text.push_str(&element_text(file, element)));
-    }
-    text
-}
-
-fn element_text(file: &[u8], element: &Element) -> String {
-    let control = element.control;
-    let launch = match &element.body {
-        Body::Launch(launch) => launch,
-        _ => {
-            let body = digits(&file[element.bytes.start + policy::ELEMENT_HEAD..element.bytes.end]);
-            return format!("{} {CONTROL}={control:#010x} {BODY}={body}\n", CUSTOM.0);
+    /// A text of which bytes are changed, dropped and doubled is read or not, and no text makes the program fail.
+    #[test]
+    fn damaged_descriptions() {
+        let text = "record version=0x0302 counters=1,2 type=list\nlist version=0x0201 # first\nlaunch hash-alg=1 digest=00\n\
+                    launch hash-alg=0x2 control=7\ncustom body=00ff # \u{e9}\n";
+        let mut state = 1u64;
+        let mut next = |below: usize| {
+            state = state.wrapping_mul(6_364_136_223_846_793_005).wrapping_add(1_442_695_040_888_963_407);
+            (state >> 33) as usize % below
+        };
+        let (mut accepted, mut wrong) = (0, 0);
+        for _ in 0..20_000 {
+            let mut bytes = text.as_bytes().to_vec();
+            for _ in 0..1 + next(8) {
+                let at = next(bytes.len());
+                match next(9) {
+                    0..=4 => bytes[at] = b" =#@,\n0x\xc3"[next(9)],
+                    5..=7 if bytes.len() > 1 => drop(bytes.remove(at)),
+                    _ => bytes.truncate(at + 1),
+                }
+            }
+            match read(&String::from_utf8_lossy(&bytes), Path::new("/nowhere"), "") {
+                Ok(_) => accepted += 1,
+                Err((line, message)) => {
+                    wrong += 1;
+                    assert!(line > 0 && !message.is_empty(), "{line}: {message}");
+                }
+            }
         }
-    };
-    let mut text = format!(
-        "{} {CONTROL}={control:#010x} {SINIT_MIN_VERSION}={} {RESERVED}={} {HASH_ALG}={}",
-        LAUNCH.0,
-        launch.sinit_min_version,
-        launch.reserved,
-        algorithm_name(launch.digests.hash_alg)
-    );
-    let digests = (0..).map_while(|k| policy::digest(element, k));
-    digests.for_each(|range| text.push_str(&format!(" {DIGEST}={}", digits(&file[range]))));
-    text.push('\n');
-    text
+        assert!(accepted > 100 && wrong > 100, "{accepted} accepted, {wrong} wrong");
+    }
 }

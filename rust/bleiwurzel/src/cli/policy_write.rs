@@ -6,7 +6,7 @@ use super::json::Json;
 use super::save::{self, Output};
 use super::{files, help, misuse, names, report, say, Misuse, Said, YES};
 use bleiwurzel::finding::Finding;
-use bleiwurzel::policy::{self, Written};
+use bleiwurzel::policy::{self, ElementDescription, Written};
 use bleiwurzel::text::{bytes, digits};
 use bleiwurzel::{Refusal, RECORD_FIELDS};
 use std::ffi::{OsStr, OsString};
@@ -95,7 +95,7 @@ fn place(path: &OsStr, line: usize) -> String {
 
 /// What the refusal speaks of: the first line to which it can be led back.
 fn finding(refusal: Refusal, described: &Described, path: &OsStr) -> Option<Finding> {
-    let (line, what, expected, found) = match refusal.number {
+    let Fault { line, what, expected, found } = match refusal.number {
         31 => outside(described),
         32 => too_long(described),
         _ => None,
@@ -104,30 +104,43 @@ fn finding(refusal: Refusal, described: &Described, path: &OsStr) -> Option<Find
     Some(Finding { number: refusal.number, place: format!("{place}, {what}"), expected, found, notes: Vec::new(), field: None })
 }
 
-/// A line, if it is one, what stands there, what was expected and what was found.
-type Fault = (Option<usize>, String, String, String);
+/// What is wrong in a description.
+struct Fault {
+    /// None where it is wrong as a whole.
+    line: Option<usize>,
+    what: String,
+    expected: String,
+    found: String,
+}
 
 /// The first line that is outside the grammar. All else that the grammar asks for, the text form cannot say otherwise.
 fn outside(described: &Described) -> Option<Fault> {
-    if described.lists.is_empty() {
-        let lists = format!("1 to {} lists, each begun by a line 'list'", policy::MOST_LISTS);
-        return Some((None, "the lists".to_string(), lists, "none".to_string()));
+    let (count, most) = (described.lists.len(), policy::MOST_LISTS as usize);
+    if count == 0 {
+        let expected = format!("1 to {most} lists, each begun by a line 'list'");
+        return Some(Fault { line: None, what: "the lists".to_string(), expected, found: "none".to_string() });
     }
     described.lists.iter().zip(&described.lines).enumerate().find_map(|(i, (list, (line, lines)))| {
-        if i as u64 >= policy::MOST_LISTS {
-            let found = format!("{} lists", described.lists.len());
-            return Some((Some(*line), format!("list {i}"), format!("at most {} lists", policy::MOST_LISTS), found));
+        if i >= most {
+            let (expected, found) = (format!("at most {most} lists"), format!("{count} lists"));
+            return Some(Fault { line: Some(*line), what: format!("list {i}"), expected, found });
         }
-        if !policy::LIST_VERSIONS.contains(&list.version) {
-            let expected = policy::LIST_VERSIONS.map(|version| format!("{version:#06x}")).join(" or ");
-            return Some((Some(*line), format!("the version of list {i}"), expected, format!("{:#06x}", list.version)));
-        }
-        list.elements.iter().zip(lines).find_map(|(element, line)| unknown_algorithm(element, *line))
+        let elements = list.elements.iter().zip(lines);
+        other_version(i, list.version, *line).or_else(|| elements.filter_map(unknown_algorithm).next())
     })
 }
 
+/// The version of a list that is not of the grammar.
+fn other_version(i: usize, version: u16, line: usize) -> Option<Fault> {
+    if policy::LIST_VERSIONS.contains(&version) {
+        return None;
+    }
+    let expected = policy::LIST_VERSIONS.map(|version| format!("{version:#06x}")).join(" or ");
+    Some(Fault { line: Some(line), what: format!("the version of list {i}"), expected, found: format!("{version:#06x}") })
+}
+
 /// The HashAlg of a launch element that is not of the grammar.
-fn unknown_algorithm(element: &policy::ElementDescription, line: usize) -> Option<Fault> {
+fn unknown_algorithm((element, line): (&ElementDescription, &usize)) -> Option<Fault> {
     let hash_alg = match (element.kind, element.body.get(2..4)) {
         (policy::LAUNCH, Some(field)) => u16::from_le_bytes([field[0], field[1]]),
         _ => return None,
@@ -135,7 +148,8 @@ fn unknown_algorithm(element: &policy::ElementDescription, line: usize) -> Optio
     if policy::algorithm(hash_alg).is_some() {
         return None;
     }
-    Some((Some(line), "the hash algorithm".to_string(), description::algorithm_names(), format!("{hash_alg:#06x}")))
+    let (what, expected) = ("the hash algorithm".to_string(), description::algorithm_names());
+    Some(Fault { line: Some(*line), what, expected, found: format!("{hash_alg:#06x}") })
 }
 
 /// The line with which the file grows too long.
@@ -151,13 +165,12 @@ fn too_long(described: &Described) -> Option<Fault> {
         size += more;
         size > policy::MOST
     })?;
-    let expected = format!("at most {} bytes in the policy file", policy::MOST);
-    Some((
-        Some(*line),
-        "with which the file grows too long".to_string(),
-        expected,
-        format!("{size} bytes up to here, {all} in all"),
-    ))
+    Some(Fault {
+        line: Some(*line),
+        what: "with which the file grows too long".to_string(),
+        expected: format!("at most {} bytes in the policy file", policy::MOST),
+        found: format!("{size} bytes up to here, {all} in all"),
+    })
 }
 
 /// What is said of files that were written; nothing where one of them went to standard output.

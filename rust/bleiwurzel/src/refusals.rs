@@ -755,7 +755,8 @@ pub static TEXTS: [Text; 33] = [
             "Write elements of types 0x10 and 3 only, which are the lines `launch` and `custom`. A list with STM elements, one with tboot's \
              type 0x13, and a signed one are made by tboot's tools; the text of 29 has their command lines.",
             "To change a policy file that is there, have its description printed, change a line of that and write it again: `bleiwurzel policy show \
-             --as-description FILE`.",
+             --as-description FILE --policy-record RECORD`. Without the old record, the new one asks for counters and a SINITMinVersion of 0, \
+             unless lines of the description say otherwise.",
             "A program that calls `bleiwurzel_policy_write` hands over 1 number, 2 more for each list and 3 more for each element, and as many bytes of \
              bodies as the lengths make together.",
         ],

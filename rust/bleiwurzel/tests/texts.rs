@@ -165,6 +165,11 @@ fn no_new_record_lifts_a_revocation_unsaid() {
             assert!(point.contains(flag), "{flag} is not said: {point}");
         }
     }
+    for command in commands(&markdown(), "bleiwurzel policy show --as-description ") {
+        assert!(command.contains(" --policy-record "), "the fields of the record are lost: {command}");
+    }
+    assert!(words(&run(&["policy", "write", "--help"]).out)
+        .contains("without them the new one asks for 0, and what was revoked passes"));
 }
 
 #[test]

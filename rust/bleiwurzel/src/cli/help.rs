@@ -196,8 +196,10 @@ for each. A key that is left out has the value that is shown here:
 
 Names of files behind @ count from the description's folder, or from the current
 one where the description is standard input. The fields of the record are not
-judged here; bleiwurzel check judges them. tboot's tools write custom elements
-with type 0x13, which cannot be written here.
+judged here; bleiwurzel check judges them. Where an old record asks for counters
+or a sinit-min-version, give these again: without them the new one asks for 0,
+and what was revoked passes. tboot's tools write custom elements with type 0x13,
+which cannot be written here.
 
 A description:
   # Hosts 17 to 20.

@@ -1,10 +1,10 @@
 /*
  * Bleiwurzel: whether the next Intel TXT launch will succeed. The interface of libbleiwurzel.a for C11 and C++.
  *
- * What is lent. Every `const uint8_t *` with the length behind it is lent for reading during the call and not kept. Every pointer without
- * `const` is lent for writing during the call; what is written there is said at each function. Memory that is written may not overlap memory
- * that is read or written under another name in the same call. A part of length 0 is allowed everywhere; its pointer is not followed but must
- * not be NULL (any object's address will do).
+ * What is lent. Every pointer to `const` is lent for reading during the call and not kept; the length behind it counts what it points to. Every
+ * pointer without `const` is lent for writing during the call; what is written there is said at each function. Memory that is written may not
+ * overlap memory that is read or written under another name in the same call. A part of length 0 is allowed everywhere; its pointer is not
+ * followed but must not be NULL (any object's address will do).
  *
  * What is asked of the caller. Nothing else: every function answers for every content and every number, ends, allocates nothing, has no state
  * of its own and may be called from several threads at once. No address is followed but those of the arguments; physical addresses are numbers.
@@ -23,7 +23,8 @@ extern "C" {
 #endif
 
 /* The numbers of an answer, in the order in which they are tried; 14 to 20 follow the walk through the page tables. Rules 26 to 29 are tried
- * under a LIST policy only. docs/REFUSALS.md has causes and remedies. */
+ * under a LIST policy only. 31 to 33 are those of bleiwurzel_policy_write, and of no other function. docs/REFUSALS.md has causes and
+ * remedies. */
 enum bleiwurzel_number {
     /* The launch is permitted. */
     BLEIWURZEL_PERMITTED = 0,
@@ -87,7 +88,13 @@ enum bleiwurzel_number {
     /* No list of the policy file permits this image. */
     BLEIWURZEL_NO_LIST = 29,
     /* The file is no capture: its mark, version or lengths are wrong, or it has over 65536 bytes. */
-    BLEIWURZEL_CAPTURE = 30
+    BLEIWURZEL_CAPTURE = 30,
+    /* The description of a policy file is outside the grammar, or an element has another type than 0x10 and 3. */
+    BLEIWURZEL_POLICY_DESCRIPTION = 31,
+    /* The policy file that is described would have over 65536 bytes. */
+    BLEIWURZEL_POLICY_SIZE = 32,
+    /* The buffer that the caller lends has fewer bytes than the policy file. */
+    BLEIWURZEL_POLICY_ROOM = 33
 };
 
 /* The list of an answer where no list permits: on every refusal, and under an ANY policy. */
@@ -103,7 +110,7 @@ enum bleiwurzel_number {
 #define BLEIWURZEL_CAPTURE_PLACES 4096u
 
 /* Bytes: the most of a memory window, of a TXT heap, of an STM image and of a capture file, the least and the most of a policy file, those of a
- * policy record. */
+ * policy record, and those of it that stand before its PolicyHash. */
 #define BLEIWURZEL_MOST_WINDOW (128u << 20)
 #define BLEIWURZEL_MOST_HEAP (1u << 20)
 #define BLEIWURZEL_MOST_STM (16u << 20)
@@ -111,6 +118,7 @@ enum bleiwurzel_number {
 #define BLEIWURZEL_LEAST_POLICY 36u
 #define BLEIWURZEL_MOST_POLICY 65536u
 #define BLEIWURZEL_RECORD_LENGTH 70u
+#define BLEIWURZEL_RECORD_FIELDS 38u
 
 /* The offset of the first list of every policy file. */
 #define BLEIWURZEL_FIRST_LIST 36u
@@ -269,6 +277,29 @@ uint32_t bleiwurzel_policy_element(const uint8_t *file, size_t file_length, size
  * Lent for reading: file. Written: all eight fields, zeros where there is no element.
  */
 uint32_t bleiwurzel_policy_element_at(const uint8_t *file, size_t file_length, size_t at, uint64_t fields[8]);
+
+/* ---- The writer of policy files ----------------------------------------------------------------------------------------------------- */
+
+/*
+ * Writes the policy file of a description, all of whose lists are unsigned, and gives its length and the policy record that goes with it.
+ *
+ * Lent for reading:
+ *   numbers, `numbers_length` 32-bit numbers: how many lists there are, 1 to 8; then for each list its version, 0x0200 or 0x0201, and how many
+ *   elements it has, which may be 0; behind these, for each of its elements, type, control and the length of its body. A type is 0x10 or 3, a
+ *   control any number. So there are 1 + 2 * lists + 3 * elements numbers, in file order.
+ *   bodies: the bodies of all elements, one behind the other in the same order and nothing else. A body of type 0x10 is SINITMinVersion (8 bits),
+ *   reserved (8), HashAlg (16), count (16) and as many digests; one of type 3 is any bytes.
+ *   fields: the first 38 bytes of the record, all that stands before PolicyHash. They are not judged; bleiwurzel_check judges some (23 to 25).
+ * Written: file, a buffer of `room` bytes: on 0 the policy file stands from its first byte on, and the bytes past the file stay; on a refusal
+ * every byte stays. length always: how many bytes the file has, or 0 on a refusal. record always: the fields and behind them PolicyHash, which is
+ * right for the file; or 70 zeros on a refusal.
+ * Answers 0, or the first of these that holds: 31 where numbers and bodies describe no file of the grammar (one too few or too many of either
+ * is enough), 32 where the file would have over 65536 bytes, 33 where it has over `room`. With BLEIWURZEL_MOST_POLICY bytes of room 33 is never
+ * answered.
+ * What was written is a policy file to bleiwurzel_policy, with the lists and elements of the description.
+ */
+uint32_t bleiwurzel_policy_write(const uint32_t *numbers, size_t numbers_length, const uint8_t *bodies, size_t bodies_length,
+                                 const uint8_t fields[38], uint8_t *file, size_t room, uint64_t length[1], uint8_t record[70]);
 
 /* ---- SHA-256 ------------------------------------------------------------------------------------------------------------------------ */
 

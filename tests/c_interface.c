@@ -313,6 +313,65 @@ static void signatures(void)
     NEED(bleiwurzel_rsa_verify(key, k, signature, k, message, signed_length));
 }
 
+/* bleiwurzel_policy_write with so many of the numbers and of the bodies, into so much of a buffer. A refusal leaves the buffer as it was and
+ * gives zeros. */
+static uint8_t written[BLEIWURZEL_MOST_POLICY + 1];
+static uint8_t written_record[BLEIWURZEL_RECORD_LENGTH];
+static uint32_t write_policy(const uint32_t *numbers, size_t count, const uint8_t *bodies, size_t length, size_t room, uint64_t *wrote)
+{
+    static uint8_t fields[BLEIWURZEL_RECORD_FIELDS];
+    memset(written, 0x5a, sizeof written);
+    memset(written_record, 0x5a, sizeof written_record);
+    memset(fields, 0xa5, sizeof fields); /* they are not judged */
+    *wrote = 1;
+    uint32_t number = bleiwurzel_policy_write(numbers, count, bodies, length, fields, written, room, wrote, written_record);
+    for (size_t i = (size_t)*wrote; i < sizeof written; i++)
+        NEED(written[i] == 0x5a);
+    for (size_t i = 0; i < sizeof written_record && number != 0; i++)
+        NEED(written_record[i] == 0);
+    NEED(number == 0 ? memcmp(written_record, fields, sizeof fields) == 0 : *wrote == 0);
+    return number;
+}
+
+/* A list of a launch element with one digest and a custom element, and an empty list. */
+static void written_policies(void)
+{
+    uint32_t numbers[] = { 2, 0x0201, 2, 0x10, 1, 38, 3, 0xffffffff, 5, 0x0200, 0 };
+    const size_t count = sizeof numbers / sizeof numbers[0];
+    static uint8_t bodies[BLEIWURZEL_MOST_POLICY] = { 7, 9, 0x0B, 0, 1, 0 };
+    const size_t length = 38 + 5, size = 36 + 8 + 50 + 17 + 8;
+    memcpy(bodies + 38, "hello", 5);
+    uint64_t wrote, lists[1], place[1], fields[9];
+    NEED(write_policy(numbers, count, bodies, length, size, &wrote) == 0 && wrote == size);
+    NEED(bleiwurzel_policy(written, (size_t)wrote, lists, place) == 0 && lists[0] == 2);
+    NEED(bleiwurzel_policy_list(written, (size_t)wrote, 1, fields) == BLEIWURZEL_LIST_UNSIGNED && fields[BLEIWURZEL_LIST_VERSION] == 0x0200);
+    NEED(bleiwurzel_policy_element(written, (size_t)wrote, 0, 0, fields) == BLEIWURZEL_ELEMENT_LAUNCH);
+    NEED(fields[BLEIWURZEL_ELEMENT_CONTROL] == 1 && fields[BLEIWURZEL_ELEMENT_SINIT_MIN_VERSION] == 7);
+    NEED(fields[BLEIWURZEL_ELEMENT_RESERVED] == 9 && fields[BLEIWURZEL_ELEMENT_DIGESTS] == 1);
+    NEED(bleiwurzel_policy_element(written, (size_t)wrote, 0, 1, fields) == BLEIWURZEL_ELEMENT_CUSTOM);
+    NEED(fields[BLEIWURZEL_ELEMENT_CONTROL] == 0xffffffff && memcmp(written + fields[BLEIWURZEL_ELEMENT_OFFSET] + 12, "hello", 5) == 0);
+    uint8_t measures[64], hash[32];
+    bleiwurzel_sha256(written + 36, 8 + 50 + 17, measures);
+    bleiwurzel_sha256(written + 36 + 8 + 50 + 17, 8, measures + 32);
+    bleiwurzel_sha256(measures, sizeof measures, hash);
+    NEED(memcmp(written_record + BLEIWURZEL_RECORD_FIELDS, hash, sizeof hash) == 0);
+    NEED(write_policy(numbers, count, bodies, length, sizeof written, &wrote) == 0 && wrote == size);
+    NEED(write_policy(numbers, count, bodies, length, size - 1, &wrote) == BLEIWURZEL_POLICY_ROOM);
+    NEED(write_policy(numbers, count, bodies, length, 0, &wrote) == BLEIWURZEL_POLICY_ROOM);
+    NEED(write_policy(numbers, count - 1, bodies, length, size, &wrote) == BLEIWURZEL_POLICY_DESCRIPTION);
+    NEED(write_policy(numbers, 0, bodies, 0, size, &wrote) == BLEIWURZEL_POLICY_DESCRIPTION);
+    NEED(write_policy(numbers, count, bodies, length - 1, size, &wrote) == BLEIWURZEL_POLICY_DESCRIPTION);
+    NEED(write_policy(numbers, count, bodies, length + 1, size, &wrote) == BLEIWURZEL_POLICY_DESCRIPTION);
+    numbers[6] = 0x13; /* a custom element of tboot's */
+    NEED(write_policy(numbers, count, bodies, length, size, &wrote) == BLEIWURZEL_POLICY_DESCRIPTION);
+    numbers[6] = 3;
+    numbers[8] = (uint32_t)(5 + BLEIWURZEL_MOST_POLICY - size); /* as long as a file may be, and a byte longer */
+    NEED(write_policy(numbers, count, bodies, 38 + numbers[8], sizeof written, &wrote) == 0 && wrote == BLEIWURZEL_MOST_POLICY);
+    numbers[8] += 1;
+    NEED(write_policy(numbers, count, bodies, 38 + numbers[8], sizeof written, &wrote) == BLEIWURZEL_POLICY_SIZE);
+    NEED(write_policy(numbers, count, bodies, 38 + numbers[8], 0, &wrote) == BLEIWURZEL_POLICY_SIZE);
+}
+
 int main(void)
 {
     build_heap();
@@ -328,6 +387,7 @@ int main(void)
     places();
     policies();
     signatures();
+    written_policies();
     (void)example_main;
     return wrong;
 }

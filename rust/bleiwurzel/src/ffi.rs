@@ -1,6 +1,6 @@
 //! The functions of the static library, with slices for pointers and lengths. All that is unsafe stands here.
 
-use crate::{Answer, Parts, Platform};
+use crate::{Answer, Parts, Platform, RECORD_FIELDS, RECORD_LENGTH};
 
 extern "C" {
     fn bleiwurzel_check_measured(
@@ -44,6 +44,17 @@ extern "C" {
     fn bleiwurzel_policy_list_at(file: *const u8, file_length: usize, at: usize, fields: *mut [u64; 9]) -> u32;
     fn bleiwurzel_policy_element(file: *const u8, file_length: usize, i: usize, j: usize, fields: *mut [u64; 8]) -> u32;
     fn bleiwurzel_policy_element_at(file: *const u8, file_length: usize, at: usize, fields: *mut [u64; 8]) -> u32;
+    fn bleiwurzel_policy_write(
+        numbers: *const u32,
+        numbers_length: usize,
+        bodies: *const u8,
+        bodies_length: usize,
+        fields: *const [u8; RECORD_FIELDS],
+        file: *mut u8,
+        room: usize,
+        length: *mut [u64; 1],
+        record: *mut [u8; RECORD_LENGTH],
+    ) -> u32;
     fn bleiwurzel_sha256(message: *const u8, message_length: usize, digest: *mut [u8; 32]);
     fn bleiwurzel_rsa_verify(
         key: *const u8,
@@ -154,6 +165,32 @@ pub fn policy_element_at(file: &[u8], at: usize) -> (u32, [u64; 8]) {
     // SAFETY: as in `policy`.
     let kind = unsafe { bleiwurzel_policy_element_at(file.as_ptr(), file.len(), at, &mut fields) };
     (kind, fields)
+}
+
+/// The number of a description, and the length and the record of the file that was written, zeros where none was.
+pub fn policy_write(
+    numbers: &[u32],
+    bodies: &[u8],
+    fields: &[u8; RECORD_FIELDS],
+    file: &mut [u8],
+) -> (u32, u64, [u8; RECORD_LENGTH]) {
+    let (mut length, mut record) = ([0u64; 1], [0u8; RECORD_LENGTH]);
+    // SAFETY: each slice is passed with its own length; three are lent for reading and one for writing, and the borrow keeps the latter
+    // apart from them. The two arrays are this function's own.
+    let number = unsafe {
+        bleiwurzel_policy_write(
+            numbers.as_ptr(),
+            numbers.len(),
+            bodies.as_ptr(),
+            bodies.len(),
+            fields,
+            file.as_mut_ptr(),
+            file.len(),
+            &mut length,
+            &mut record,
+        )
+    };
+    (number, length[0], record)
 }
 
 pub fn sha256(message: &[u8]) -> [u8; 32] {

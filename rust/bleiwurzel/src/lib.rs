@@ -95,10 +95,10 @@ pub struct Permission {
     pub digest: [u8; 32],
 }
 
-/// The launch is refused.
+/// The launch, or the policy file that was asked for, is refused.
 #[derive(Clone, Copy, Debug, PartialEq, Eq)]
 pub struct Refusal {
-    /// 1 to 30.
+    /// 1 to 30 of a launch; 26 and 27 of the reader of policy files, 31 to 33 of their writer.
     pub number: u32,
     /// Of 27 the offset, from the policy file's first byte, of the first field in file order whose rule fails or that does not fit; it may be 0,
     /// and where a field is missing it may be the file's length. Of every other number 0.

@@ -20,5 +20,7 @@ pub const MOST_PAGES: usize = 16_384;
 pub const MOST_TABLES: usize = 40;
 /// The bytes of a policy record.
 pub const RECORD_LENGTH: usize = 70;
+/// Those of them that stand before its PolicyHash.
+pub const RECORD_FIELDS: usize = 38;
 /// The list of an answer where no list permits: on every refusal, and under an ANY policy.
 pub const NO_LIST: u32 = 255;

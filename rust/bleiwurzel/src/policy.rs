@@ -1,8 +1,15 @@
 //! The reader of policy files: the number of a string, any list or element of it by number or at an offset, and all of them in turn.
-//! Offsets count from the file's first byte.
+//! Offsets count from the file's first byte. And the writer: the policy file of a description, with its record, and the description of a file.
+
+mod description;
+mod record;
+mod writer;
 
 use crate::{ffi, rsa_verify, Refusal};
+pub use description::{descriptions, ElementDescription, ListDescription, Undescribed};
+pub use record::RecordFields;
 use std::ops::Range;
+pub use writer::{write, write_into, Placed, Written};
 
 /// The offset of the first list of every policy file.
 pub const FIRST_LIST: usize = 36;
@@ -81,6 +88,14 @@ impl Element {
         }
     }
 }
+
+/// The versions of a list.
+pub const LIST_VERSIONS: [u16; 2] = [0x0200, 0x0201];
+
+/// The bytes of an element before its body: its size, type and control.
+pub const ELEMENT_HEAD: usize = 12;
+/// The bytes of a list before its elements: its version, signature algorithm and elements size.
+pub const LIST_HEAD: usize = 8;
 
 /// The type of a launch element.
 pub const LAUNCH: u32 = 0x10;

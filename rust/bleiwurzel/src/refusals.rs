@@ -18,7 +18,7 @@ pub struct Text {
     pub builder: &'static [&'static str],
 }
 
-/// The text of a number from 1 to 30.
+/// The text of a number from 1 to 33.
 pub fn text(number: u32) -> Option<&'static Text> {
     TEXTS.iter().find(|text| text.number == number)
 }
@@ -58,7 +58,8 @@ image changes. This page is printed by `bleiwurzel refusals`; a test compares th
 Start with the tool: `bleiwurzel check` says on a refusal what was found and where, with the value that was expected. The numbers are
 tried in rising order, except 14 to 20, which come up in the order in which the page tables are walked. So everything with a lower
 number is in order (of 14 to 20, all that the walk meets before the place that was found), and a repaired fault may uncover a later
-one. Rules 26 to 29 are tried under a LIST policy only.
+one. Rules 26 to 29 are tried under a LIST policy only. 31 to 33 are no numbers of the check: with these `bleiwurzel policy write`, which makes
+a policy file of a description, says that it has written none.
 
 Offsets are in bytes and numbers little-endian. Offsets *in OsSinitData* count from the byte after its 8-byte size field; offsets *in the
 module*, *in the MLE header*, *in the record* and *in the policy file* from their first byte. A window offset is the physical address
@@ -117,7 +118,7 @@ macro_rules! under_any {
     };
 }
 
-pub static TEXTS: [Text; 30] = [
+pub static TEXTS: [Text; 33] = [
     Text {
         number: 1,
         name: "limits",
@@ -725,5 +726,72 @@ pub static TEXTS: [Text; 30] = [
             "For images over 64 KiB hand over the parts instead: `bleiwurzel check --window FILE --heap FILE ..`.",
         ],
         builder: &["Write captures with `bleiwurzel capture make`."],
+    },
+    Text {
+        number: 31,
+        name: "policy description",
+        meaning: "The description of a policy file is outside the grammar, or an element has another type than 0x10 and 3.",
+        rule: "A description has 1 to 8 lists, all unsigned, each of version 0x0200 or 0x0201 and with any number of elements; an element has \
+            type 0x10 or 3, any control, and a body. The body of type 0x10 is as 27 asks, with a count that agrees with its digests; that of type \
+            3 is free. What the sizes of an element and of a list's elements count fits into their 32 bits. To the library a description is \
+            numbers (how many lists; of each its version and how many elements; of each of these type, control and length of the body) and the \
+            bodies, one behind the other, with nothing missing and nothing over. The record's fields are not judged. On 31, 32 and 33 nothing is \
+            written.",
+        causes: &[
+            "The description has no list, or a ninth one.",
+            "A list has another version, as 0x0300.",
+            "An element of another type is asked for, as an STM element (0x14), or a file with `custom` elements of tboot's tools, whose type \
+             is 0x13, is to be written again.",
+            "The count of a 0x10 body is another than that of its digests, or these are not as long as those of its HashAlg.",
+            "A program hands over lengths that do not add up.",
+        ],
+        technician: &[
+            "The host is not at fault, and no file was changed: keep the policy file and the record that it has.",
+            "Look at the line that the tool names, and at the help of `bleiwurzel policy write`, which has a whole description to copy.",
+            "If another program made the description, hand number and description to whoever maintains that program.",
+        ],
+        builder: &[
+            "Begin each list with a line of its own, `list version=0x0201`, and have at most eight of them.",
+            "Write elements of types 0x10 and 3 only, which are the lines `launch` and `custom`. A list with STM elements, one with tboot's \
+             type 0x13, and a signed one are made by tboot's tools; the text of 29 has their command lines.",
+            "To change a policy file that is there, have its description printed, change a line of that and write it again: `bleiwurzel policy show \
+             --as-description FILE --policy-record RECORD`. Without the old record, the new one asks for counters and a SINITMinVersion of 0, \
+             unless lines of the description say otherwise.",
+            "A program that calls `bleiwurzel_policy_write` hands over 1 number, 2 more for each list and 3 more for each element, and as many bytes of \
+             bodies as the lengths make together.",
+        ],
+    },
+    Text {
+        number: 32,
+        name: "policy size",
+        meaning: "The policy file that is described would have over 65536 bytes.",
+        rule: "36 bytes, 8 more for each list, 12 more for each element and all bodies are at most 65,536 together, which is the most that 26 lets \
+            pass. A body of type 0x10 has 6 bytes and those of its digests. It is tried after 31.",
+        causes: &[
+            "The lists name too many digests: one launch element alone has place for 2,046 of SHA-256.",
+            "A whole file was given as the body of a custom element.",
+        ],
+        technician: &[
+            "Nothing was written, and the host's policy is as it was.",
+            "Look at the line with which the file grows too long, and hand it to whoever writes the description.",
+        ],
+        builder: &[
+            "Leave out the digests of images that no host starts any more, and all that are not of SHA-256: others never permit here.",
+            "Divide the hosts into groups, each with a policy file and a record of its own.",
+            "Keep large data elsewhere, and put its digest into the custom element.",
+        ],
+    },
+    Text {
+        number: 33,
+        name: "policy room",
+        meaning: "The buffer that the caller lends has fewer bytes than the policy file.",
+        rule: "The file has at most as many bytes as the buffer into which it is to be written. It is tried after 32. The buffer keeps every byte, and \
+            length and record are zeros.",
+        causes: &["A program lends a buffer for the files that it knew, and this one is longer."],
+        technician: &[
+            "Only a program that calls the library meets this: `bleiwurzel policy write` lends room for every file. Write the policy with it, or hand \
+             the description to whoever maintains the program.",
+        ],
+        builder: &["Lend 65,536 bytes, `BLEIWURZEL_MOST_POLICY` in C and `policy::MOST` in Rust: with as many 33 is never answered."],
     },
 ];

@@ -104,7 +104,9 @@ fn a_closed_stream_is_no_file() {
     let words = written(&folder, &image(&Shape::default()));
     let (parts, of_input) = (words.join(" "), words[2..].join(" "));
     let said = |script: &str| ran(Command::new("sh").args(["-c", script, "sh", TOOL]).output().expect("a shell runs"));
-    for command in ["check --capture -", "capture show -", "policy -", &format!("check {of_input} --window -")] {
+    let write = format!("policy write -o {0}/p.data --record {0}/p.pol -", folder.display());
+    let check = format!("check {of_input} --window -");
+    for command in ["check --capture -", "capture show -", "policy -", "policy show --as-description -", &write, &check] {
         let ran = said(&format!("\"$1\" {command} <&-"));
         assert_eq!((ran.status, ran.out.as_str()), (MISUSE, ""), "{command}");
         assert!(ran.err.contains("cannot read standard input for the ") && ran.err.contains(": it is closed\n"), "{}", ran.err);

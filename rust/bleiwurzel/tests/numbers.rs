@@ -88,7 +88,20 @@ const NUMBERS: &[Number] = &[
         value: RECORD_LENGTH as u64,
         rattle: &["RECORD_SIZE", "recordSize"],
         macros: &["BLEIWURZEL_RECORD_LENGTH"],
-        said: |n| vec![format!("does not have {n} bytes, major version 3"), format!("the policy record of {n} bytes")],
+        said: |n| {
+            vec![
+                format!("does not have {n} bytes, major version 3"),
+                format!("the policy record of {n} bytes"),
+                format!("uint8_t record[{n}]"),
+                format!("or {n} zeros on a refusal"),
+            ]
+        },
+    },
+    Number {
+        value: RECORD_FIELDS as u64,
+        rattle: &["POLICY_HASH"],
+        macros: &["BLEIWURZEL_RECORD_FIELDS"],
+        said: |n| vec![format!("the first {n} bytes of the record"), format!("const uint8_t fields[{n}]")],
     },
     Number {
         value: policy::LEAST as u64,
@@ -100,7 +113,13 @@ const NUMBERS: &[Number] = &[
         value: policy::MOST as u64,
         rattle: &["LARGEST_FILE", "largestFile"],
         macros: &["BLEIWURZEL_MOST_POLICY"],
-        said: |n| vec![format!("its size is not 36 to {n} bytes"), format!("it does not have 36 to {n} bytes")],
+        said: |n| {
+            vec![
+                format!("its size is not 36 to {n} bytes"),
+                format!("it does not have 36 to {n} bytes"),
+                format!("would have over {n} bytes"),
+            ]
+        },
     },
     Number {
         value: policy::FIRST_LIST as u64,
@@ -108,7 +127,12 @@ const NUMBERS: &[Number] = &[
         macros: &["BLEIWURZEL_FIRST_LIST"],
         said: nothing,
     },
-    Number { value: policy::MOST_LISTS, rattle: &["MOST_LISTS", "mostLists"], macros: &[], said: nothing },
+    Number {
+        value: policy::MOST_LISTS,
+        rattle: &["MOST_LISTS", "mostLists"],
+        macros: &[],
+        said: |n| vec![format!("how many lists there are, 1 to {n};")],
+    },
     Number {
         value: policy::LAUNCH as u64,
         rattle: &["LAUNCH_TYPE", "launchType"],
@@ -300,8 +324,29 @@ fn the_texts_say_the_same_limits() {
         ("docs/REFUSALS.md", format!("- {pages} pages need {} page tables,", MOST_PAGES / 512)),
         ("rust/bleiwurzel/src/cli/help.rs", format!("at most {window} MiB:")),
     ];
-    for (file, said) in said {
-        let text = std::fs::read_to_string(top().join(file)).expect("a text");
-        assert!(text.contains(&said), "{file} does not say: {said}");
-    }
+    said.iter().for_each(|(file, said)| hold_said(file, said));
+}
+
+fn hold_said(file: &str, said: &str) {
+    let text = std::fs::read_to_string(top().join(file)).expect("a text");
+    assert!(text.contains(said), "{file} does not say: {said}");
+}
+
+/// The sizes of what is written, as sentences of several texts say them.
+#[test]
+fn the_texts_say_the_same_sizes_of_policy_files() {
+    let (lists, before, most) = (policy::MOST_LISTS, policy::FIRST_LIST, grouped(policy::MOST));
+    let (list, element) = (policy::LIST_HEAD, policy::ELEMENT_HEAD);
+    let digests = grouped((policy::MOST - before - list - element - 6) / 32);
+    let said = [
+        ("rust/bleiwurzel/src/cli/help.rs", format!("the policy record of {RECORD_LENGTH} bytes that is to be written")),
+        ("rust/bleiwurzel/src/cli/help.rs", format!("begins a list; 1 to {lists} of them")),
+        ("rust/bleiwurzel/src/cli/help.rs", format!("whole pages of {PAGE_SIZE} bytes")),
+        ("docs/REFUSALS.md", format!("A description has 1 to {lists} lists,")),
+        ("docs/REFUSALS.md", format!("{before} bytes, {list} more for each list, {element} more for each element")),
+        ("docs/REFUSALS.md", format!("and all bodies are at most {most} together")),
+        ("docs/REFUSALS.md", format!("one launch element alone has place for {digests} of SHA-256")),
+        ("docs/REFUSALS.md", format!("Lend {most} bytes, `BLEIWURZEL_MOST_POLICY`")),
+    ];
+    said.iter().for_each(|(file, said)| hold_said(file, said));
 }

@@ -6,7 +6,7 @@
 
 mod common;
 
-use bleiwurzel::{capture, MOST_PAGES, MOST_TABLES, MOST_WINDOW};
+use bleiwurzel::{capture, policy, MOST_PAGES, MOST_TABLES, MOST_WINDOW, RECORD_FIELDS, RECORD_LENGTH};
 use common::*;
 use std::arch::asm;
 
@@ -21,8 +21,9 @@ extern "C" {
         place: *mut [u32; 1],
         digest: *mut [u8; 32],
     ) -> u32;
-    /// Only its address is used; include/bleiwurzel.h has the arguments.
+    /// Only the addresses of these are used; include/bleiwurzel.h has the arguments.
     fn bleiwurzel_check();
+    fn bleiwurzel_policy_write();
 }
 
 const SIZE: usize = 1 << 16;
@@ -145,4 +146,38 @@ fn the_check_of_a_small_and_of_the_largest_image() {
     println!("the check takes {small} bytes of stack for two pages, {large} for {MOST_PAGES}");
     assert_eq!(small, large, "the stack for two pages, and for the most");
     assert!(large <= AT_MOST, "the check of an image takes {large} bytes of stack, more than {AT_MOST}");
+}
+
+/// What the writer of policy files takes for one list of a custom element with this body.
+fn writer_takes(stack: &mut Stack, body: &[u8]) -> usize {
+    let numbers = [1u32, 0x0201, 1, policy::CUSTOM, 0, body.len() as u32];
+    let (fields, mut file) = ([0u8; RECORD_FIELDS], vec![0u8; policy::MOST]);
+    let (mut length, mut record) = ([0u64; 1], [0u8; RECORD_LENGTH]);
+    let arguments = [
+        numbers.as_ptr() as usize,
+        numbers.len(),
+        body.as_ptr() as usize,
+        body.len(),
+        fields.as_ptr() as usize,
+        file.as_mut_ptr() as usize,
+        file.len(),
+        &mut length as *mut _ as usize,
+        &mut record as *mut _ as usize,
+    ];
+    // SAFETY: as above.
+    let taken = unsafe { deepest(stack, bleiwurzel_policy_write as *const (), &arguments) };
+    assert_eq!(length[0] as usize, policy::FIRST_LIST + policy::LIST_HEAD + policy::ELEMENT_HEAD + body.len(), "a file");
+    taken
+}
+
+/// A small policy file and the largest: nothing of the file is on the stack.
+#[test]
+fn the_writer_of_a_small_and_of_the_largest_file() {
+    const AT_MOST: usize = 4240;
+    let mut stack = Box::new(Stack([0; SIZE]));
+    let most = policy::MOST - policy::FIRST_LIST - policy::LIST_HEAD - policy::ELEMENT_HEAD;
+    let [small, large] = [100, most].map(|length| writer_takes(&mut stack, &vec![0x61; length]));
+    println!("the writer takes {small} bytes of stack for a small file, {large} for the largest");
+    assert_eq!(small, large, "the stack for a small file, and for the largest");
+    assert!(large <= AT_MOST, "the writer takes {large} bytes of stack, more than {AT_MOST}");
 }

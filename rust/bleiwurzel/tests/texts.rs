@@ -18,7 +18,7 @@ fn read(path: &str) -> String {
 #[test]
 fn every_number_has_its_text() {
     let numbers: Vec<u32> = TEXTS.iter().map(|text| text.number).collect();
-    assert_eq!(numbers, (1..=30).collect::<Vec<u32>>());
+    assert_eq!(numbers, (1..=33).collect::<Vec<u32>>());
     for entry in &TEXTS {
         let number = entry.number;
         assert!(
@@ -35,7 +35,7 @@ fn every_number_has_its_text() {
         assert_eq!((refusal.line(), refusal.to_string()), (line.clone(), format!("{line}: {}", entry.meaning)));
     }
     assert_eq!(Refusal { number: 27, place: 0 }.line(), "refused 27 at 0");
-    assert!(text(0).is_none() && text(31).is_none());
+    assert!(text(0).is_none() && text(34).is_none());
 }
 
 #[test]
@@ -165,6 +165,11 @@ fn no_new_record_lifts_a_revocation_unsaid() {
             assert!(point.contains(flag), "{flag} is not said: {point}");
         }
     }
+    for command in commands(&markdown(), "bleiwurzel policy show --as-description ") {
+        assert!(command.contains(" --policy-record "), "the fields of the record are lost: {command}");
+    }
+    assert!(words(&run(&["policy", "write", "--help"]).out)
+        .contains("without them the new one asks for 0, and what was revoked passes"));
 }
 
 #[test]
@@ -174,7 +179,7 @@ fn the_header_has_the_same_numbers_and_sentences() {
     let header = words.join(" ");
     for entry in &TEXTS {
         let name = entry.name.to_uppercase().replace(' ', "_");
-        let comma = if entry.number == 30 { "" } else { "," };
+        let comma = if entry.number == TEXTS.len() as u32 { "" } else { "," };
         let line = format!("/* {} */ BLEIWURZEL_{name} = {}{comma}", entry.meaning, entry.number);
         assert!(header.contains(&line), "the header lacks: {line}");
     }

@@ -404,15 +404,24 @@ fn refusals() {
     let ran = run(&["refusals", "29"]);
     assert!(ran.status == OK && ran.out.starts_with("29, no list\n") && ran.out.contains("0x13"), "{}", ran.out);
     assert!(is_json(&run(&["refusals", "--json"]).out) && is_json(&run(&["refusals", "7", "--json"]).out));
-    for wrong in ["0", "31", "x"] {
+    for wrong in ["0", "34", "x"] {
         assert_eq!(run(&["refusals", wrong]).status, MISUSE, "{wrong}");
     }
 }
 
 #[test]
 fn help_on_every_level() {
-    let levels: [&[&str]; 7] =
-        [&[], &["check"], &["policy"], &["capture"], &["capture", "make"], &["capture", "show"], &["refusals"]];
+    let levels: [&[&str]; 8] = [
+        &[],
+        &["check"],
+        &["policy"],
+        &["policy", "write"],
+        &["capture"],
+        &["capture", "make"],
+        &["capture", "show"],
+        &["refusals"],
+    ];
+    assert_eq!(run(&["policy", "show", "--help"]).out, run(&["policy", "--help"]).out);
     for level in levels {
         let words = [level, &["--help"]].concat();
         let ran = run(&words);

@@ -49,12 +49,13 @@ pub fn parse(words: Vec<OsString>, help: &'static str, valued: &[&str], plain: &
     Ok(args)
 }
 
-/// The name of a flag, of `-h` the long one, and the value that is joined to it by `=`.
+/// The name of a flag, of `-h` and `-o` the long one, and the value that is joined to it by `=`.
 fn split(word: OsString) -> (String, Option<OsString>) {
     let bytes = word.as_bytes();
     let end = bytes.iter().position(|byte| *byte == b'=');
     let name = match &bytes[..end.unwrap_or(bytes.len())] {
         b"-h" => HELP.to_string(),
+        b"-o" => OUTPUT.to_string(),
         name => String::from_utf8_lossy(name).into_owned(),
     };
     (name, end.map(|end| OsString::from_vec(bytes[end + 1..].to_vec())))
@@ -76,7 +77,7 @@ impl Args {
 
     /// Fails where several files are to come from standard input, which can be read once.
     fn one_input(&self) -> Result<(), Misuse> {
-        let read = |(name, value): &&(String, OsString)| value == files::STANDARD && name != OUTPUT;
+        let read = |(name, value): &&(String, OsString)| value == files::STANDARD && ![OUTPUT, RECORD].contains(&name.as_str());
         let flags: Vec<&str> = self.values.iter().filter(read).map(|(name, _)| name.as_str()).collect();
         if flags.len() > 1 {
             return misuse(self.help, format!("{} are all -, and standard input is one file; name the others", flags.join(", ")));
@@ -105,7 +106,8 @@ impl Args {
     }
 }
 
-/// The flag whose file is written.
+/// The flags whose files are written: what a command makes, and the policy record that goes with a policy file.
 pub const OUTPUT: &str = "--output";
+pub const RECORD: &str = "--record";
 /// The flag that every command has.
 pub const HELP: &str = "--help";

@@ -9,7 +9,9 @@ use std::ffi::OsString;
 
 const HELP: &str = "bleiwurzel check";
 
-pub const PARTS: [&str; 4] = ["--window", "--heap", "--sinit", "--policy-record"];
+/// The flag of the policy record, where it is read.
+pub const RECORD: &str = "--policy-record";
+pub const PARTS: [&str; 4] = ["--window", "--heap", "--sinit", RECORD];
 /// The flag of the part that there may be or not.
 pub const STM: &str = "--stm";
 

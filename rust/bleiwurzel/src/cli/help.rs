@@ -8,13 +8,15 @@ Usage:
   bleiwurzel check ..       permitted or refused, for parts in files or for one
                             capture file
   bleiwurzel policy FILE    the reading of a policy file, list by list
+  bleiwurzel policy write ..
+                            a policy file and its record from a description
   bleiwurzel capture ..     make a capture file of the parts, or show one
   bleiwurzel refusals [N]   what every refusal means and what to do; with a
                             number, that one
 
 Every command has its own --help with examples, and --json for programs. A FILE
-of - is standard input, or standard output for --output. Behind the command (of
-captures behind make or show) -- ends its flags.
+of - is standard input, or standard output for --output and --record. Behind the
+command (of captures behind make or show) -- ends its flags.
 
 Exit status: 0 permitted (or shown, written), 1 refused, 2 no answer; then
 standard error says what to do. Of check 0 means permitted and nothing else.
@@ -104,7 +106,9 @@ bleiwurzel policy: the reading of a policy file (LCP policy data), in the manner
 of tboot's lcp2_crtpol --show.
 
 Usage:
-  bleiwurzel policy FILE [--json]
+  bleiwurzel policy [show] FILE [--json]
+  bleiwurzel policy show --as-description FILE [--policy-record FILE] [--json]
+  bleiwurzel policy write ..    a policy file from a description; see its --help
 
 It shows every list with its elements, digests, key and signature, each with its
 offset in the file, whether the signature verifies, and whether the list can
@@ -121,11 +125,105 @@ the file; in JSON the place is the number \"place\". Exit status 1.
 What keeps a list from permitting, and what tboot's tools have to do with it:
 bleiwurzel refusals 29
 
+With --as-description it prints what bleiwurzel policy write makes the same file
+of, byte for byte (in JSON as the text \"description\"); with --policy-record
+FILE, a record of 70 bytes, the fields of that too. A file with a signed list,
+or with an element of a type other than 0x10 and 3, has no description: standard
+error names the list and the element. Exit status 2.
+
+A file whose name is show or write is called ./show or ./write.
+
 Examples:
   bleiwurzel policy list.data
   bleiwurzel policy list.data --json
+  Change a policy:
+    bleiwurzel policy show --as-description list.data \\
+        --policy-record list.pol > policy.txt
+    bleiwurzel policy write -o new.data --record new.pol policy.txt
   Is this image's digest in the policy?
     bleiwurzel policy list.data | grep dd311d9b
+";
+
+pub const POLICY_WRITE: &str = "\
+bleiwurzel policy write: a policy file of unsigned lists, and its policy record
+with the right PolicyHash, from a description.
+
+Usage:
+  bleiwurzel policy write -o FILE --record FILE DESCRIPTION [--json]
+
+  -o FILE, --output FILE   the policy file that is to be written
+  --record FILE            the policy record of 70 bytes that is to be written
+  DESCRIPTION              a text file, or - for standard input
+
+Both files are written or none, and none that is there already is overwritten.
+One of them may be -, for standard output.
+
+A description has a line for each list and each element, in the order of the
+file, and lines for the record. A line is a word and words key=value, with
+blanks between and none within. A word that begins with # begins a comment.
+Numbers are decimal, or hexadecimal with 0x; bytes are hexadecimal digits, two
+for each. A key that is left out has the value that is shown here:
+
+  record                   the policy record; may be several lines, or none
+    version=0x0302         16 bits; the check wants 3 in the high byte
+    hash-alg=sha256        or a number; PolicyHash is SHA-256 all the same
+    type=list              list, any or a number
+    sinit-min-version=0    8 bits: the least AcmVersion of a SINIT module
+    counters=0,0,0,0,0,0,0,0
+                           one for each list, which a signed one must reach
+    control=0              32 bits; 2 allows a debug or pre-production module
+    max-sinit-min-version=255
+                           8 bits
+    reserved=0             8 bits, at offset 27
+    lcp-hash-alg-mask=0x0008
+                           16 bits; 8 is SHA-256
+    lcp-sign-alg-mask=0x00000008
+                           32 bits; 8 is RSA of 2,048 bits with SHA-256
+    reserved2=0            32 bits, at offset 34
+  list                     begins a list; 1 to 8 of them
+    version=0x0201         0x0200 or 0x0201
+  launch                   an element of type 0x10, which names images
+    control=0              32 bits
+    sinit-min-version=0    8 bits
+    reserved=0             8 bits
+    hash-alg=sha256        sha1, sha256, sha384, sha512 or sm3-256
+    digest=..              any number of times: the digest's digits or, of
+                           sha256, @ and the name of the file with the image,
+                           whole pages of 4096 bytes
+  custom                   an element of type 3, with any bytes
+    control=0              32 bits
+    body=..                must be given: digits, or @ and the name of a file
+
+Names of files behind @ count from the description's folder, or from the current
+one where the description is standard input. The fields of the record are not
+judged here; bleiwurzel check judges them. Where an old record asks for counters
+or a sinit-min-version, give these again: without them the new one asks for 0,
+and what was revoked passes. tboot's tools write custom elements with type 0x13,
+which cannot be written here.
+
+A description:
+  # Hosts 17 to 20.
+  record sinit-min-version=1
+  list
+  launch digest=@image.bin
+  launch digest=b3f4315730049bde635935a7c5477b129df592e0a5a86dbd9886a57af0b1b399
+  list version=0x0200
+  launch hash-alg=sha1 digest=da39a3ee5e6b4b0d3255bfef95601890afd80709
+  custom body=00112233 # for the site's own tools
+
+Answers:
+  written     both files, and PolicyHash. Exit status 0.
+  refused     31 if the description is outside the grammar, 32 if the file would
+              have over 65536 bytes, with the line that is at fault. Exit
+              status 1. The number is the proved library's; no text of this form
+              leads to 33.
+  no answer   a line cannot be read, as in \"policy.txt:7: ..\", or a file cannot
+              be read or written. Exit status 2.
+
+Examples:
+  bleiwurzel policy write -o policy.data --record policy.pol policy.txt
+  A description to begin with, of a policy file that is there:
+    bleiwurzel policy show --as-description list.data --policy-record list.pol
 ";
 
 pub const CAPTURE: &str = "\

@@ -3,6 +3,7 @@
 mod args;
 mod capture;
 mod check;
+mod description;
 mod dump;
 mod files;
 mod help;
@@ -11,6 +12,7 @@ mod module;
 mod names;
 mod platform;
 mod policy;
+mod policy_write;
 mod refusals;
 mod report;
 mod save;

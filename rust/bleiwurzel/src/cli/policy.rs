@@ -1,23 +1,44 @@
-//! `bleiwurzel policy`: the reading of a policy file, in the manner of tboot's `lcp2_crtpol --show`.
+//! `bleiwurzel policy`: the reading of a policy file, in the manner of tboot's `lcp2_crtpol --show`, or the description of one, from which it is
+//! written again.
 
 use super::json::{hex, Json};
-use super::{args, dump, files, help, report, Misuse, Said, YES};
-use bleiwurzel::policy::{self, Body, Digests, Element, List, Signed};
+use super::{args, check, description, dump, files, help, misuse, names, policy_write, report, Misuse, Said, YES};
+use bleiwurzel::policy::{self, Body, Digests, Element, List, RecordFields, Signed};
 use bleiwurzel::text::{bytes, digits};
-use bleiwurzel::{finding, RECORD_LENGTH};
-use std::ffi::OsString;
+use bleiwurzel::{finding, RECORD_FIELDS, RECORD_LENGTH};
+use std::ffi::{OsStr, OsString};
 
 const HELP: &str = "bleiwurzel policy";
+const DESCRIPTION: &str = "--as-description";
 
-pub fn run(words: Vec<OsString>) -> Result<Said, Misuse> {
-    let args = args::parse(words, HELP, &[], &["--json"])?;
+pub fn run(mut words: Vec<OsString>) -> Result<Said, Misuse> {
+    match words.first().and_then(|word| word.to_str()) {
+        Some("write") => policy_write::run(words.split_off(1)),
+        Some("show") => show(words.split_off(1)),
+        _ => show(words),
+    }
+}
+
+fn show(words: Vec<OsString>) -> Result<Said, Misuse> {
+    let args = args::parse(words, HELP, &[check::RECORD], &[DESCRIPTION, "--json"])?;
     if args.has("--help") {
         return Ok(Said { text: help::POLICY.to_string(), status: YES });
     }
     let path = args.one_word("the policy file")?;
+    let record = args.value(check::RECORD);
+    if record.is_some() && !args.has(DESCRIPTION) {
+        return misuse(HELP, format!("{} is for {DESCRIPTION}; give both or none", check::RECORD));
+    }
+    if path == files::STANDARD && record == Some(path) {
+        return misuse(
+            HELP,
+            format!("the policy file and {} are both -, and standard input is one file; name the other", check::RECORD),
+        );
+    }
     let file = files::read(path, policy::MOST as u64, "the policy file", HELP)?;
     let json = args.has("--json");
     Ok(match policy::read(&file.bytes) {
+        Ok(_) if args.has(DESCRIPTION) => Said { text: described(path, &file.bytes, record, json)?, status: YES },
         Ok(_) => Said { text: shown(&file.bytes, json), status: YES },
         Err(refusal) => {
             let mut found = finding::find_in_policy(refusal, &file.bytes).map(|found| file.or_more(found));
@@ -29,6 +50,54 @@ pub fn run(words: Vec<OsString>) -> Result<Said, Misuse> {
             report::refused_in(refusal, found.as_ref(), &lines.unwrap_or_default(), HELP, json)
         }
     })
+}
+
+/// A policy file, and its record where one is given, as a description from which both are written again.
+fn described(path: &OsStr, file: &[u8], record: Option<&OsStr>, json: bool) -> Result<String, Misuse> {
+    let lists = policy::descriptions(file).or_else(|why| {
+        let name = files::shown(path);
+        misuse(
+            HELP,
+            format!("{name}: {why}; change such a file with the tools that made it, and see what it holds without {DESCRIPTION}"),
+        )
+    })?;
+    let mut text = format!("# a policy file of {}; bleiwurzel policy write makes it of this\n", bytes(file.len() as u64));
+    if let Some(path) = record {
+        let record = read_record(path)?;
+        let fields = fields_of(&record);
+        let rewritten = policy::write(&lists, &fields).map(|written| written.record);
+        if rewritten != Ok(record) {
+            text.push_str(&format!("# PolicyHash of {} is not this file's, and is written anew\n", names::shown(path)));
+        }
+        text.push_str(&description::record_text(&RecordFields::of(&fields)));
+    }
+    text.push_str(&description::lists_text(file));
+    if json {
+        return Ok(Json::Object(vec![
+            ("answer", Json::from("accepted")),
+            ("number", Json::from(0u32)),
+            ("description", Json::from(text)),
+        ])
+        .line());
+    }
+    Ok(text)
+}
+
+/// A policy record of the right length; no field of it is judged.
+fn read_record(path: &OsStr) -> Result<[u8; RECORD_LENGTH], Misuse> {
+    let record = files::read(path, RECORD_LENGTH as u64, "the policy record", HELP)?;
+    <[u8; RECORD_LENGTH]>::try_from(record.bytes).or_else(|bytes| {
+        let more = if record.length.more { " or more" } else { "" };
+        let (name, length) = (files::shown(path), bytes.len());
+        misuse(HELP, format!("{name} is no policy record: it has {length} bytes{more}, and a record has {RECORD_LENGTH}"))
+    })
+}
+
+/// What stands in a record before its PolicyHash.
+fn fields_of(record: &[u8; RECORD_LENGTH]) -> [u8; RECORD_FIELDS] {
+    let mut fields = [0; RECORD_FIELDS];
+    fields.copy_from_slice(&record[..RECORD_FIELDS]);
+    fields
 }
 
 /// What to do with a file that looks like a policy record.
@@ -185,7 +254,7 @@ fn digests_text(file: &[u8], element: &Element, named: &Digests) -> String {
 
 /// What follows an element's size, type and control.
 fn body<'a>(file: &'a [u8], element: &Element) -> &'a [u8] {
-    &file[element.bytes.start + 12..element.bytes.end]
+    &file[element.bytes.start + policy::ELEMENT_HEAD..element.bytes.end]
 }
 
 fn digests<'a>(file: &'a [u8], element: &'a Element) -> impl Iterator<Item = String> + 'a {

@@ -2,12 +2,14 @@
 #![allow(dead_code, unused_imports)]
 
 mod asked;
+mod described;
 mod image;
 mod place;
 mod policy_file;
 mod signed_list;
 
 pub use asked::*;
+pub use described::*;
 pub use image::*;
 pub use place::*;
 pub use policy_file::*;

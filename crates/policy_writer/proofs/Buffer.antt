@@ -5,10 +5,16 @@ use native.Mathlib.Omega.{arith}
 use mathlib.Core.Path.{_≡_, refl, ap, sym, subst, _∙_}
 use mathlib.Core.Logic.{_≢_}
 use mathlib.Core.List.{List, [], _∷_, _++_, append-assoc}
-use lib.ListN.{length, take, drop, getD, set, length-set}
-use lib.Seq.{sets, length-sets, sets-eq, set-comm, set-out, drop-cons, drop-length, drop-nil, take-all}
+use lib.ListN.{length, drop, getD, set, length-set, length-drop}
+use lib.Seq.{sets, length-sets, sets-eq, set-comm, set-out, drop-cons}
 use Rattle.field.specs.Number.{bytes}
-use Rattle.policy_writer.specs.Inner.{put}
+use Rattle.field.proofs.Laws.{length-bytes}
+use Rattle.policy_writer.specs.Inner.{put, Placed}
+
+-- nothing is put past the buffer's end
+past-end : (s out : List ℕ) (at : ℕ) → length out ≤ at → sets out at s ≡ out
+past-end [] out at h = refl
+past-end (b ∷ s) out at h = ap (λ (d : List ℕ). sets d (suc at) s) (set-out out at b h) ∙ past-end s out (suc at) (omega arith)
 
 -- so many bytes of `all` have been put from `at` on, and `rest` is left
 pub record Left (before out : List ℕ) (at k : ℕ) (rest all : List ℕ) : Type 0 where
@@ -25,13 +31,11 @@ module _ (before out : List ℕ) (at k : ℕ) (all : List ℕ) where
       let n : at + (k + 1) ≡ suc (at + k) = omega arith in
       record { same = ap length e ∙ length-set out (at + k) b ∙ h .same; left = rw (n, e) (h .left) }
 
-  left-end : Left before out at k [] all → out ≡ put before at all
+  -- what is left is past the buffer's end, or nothing
+  left-end : (rest : List ℕ) → (0 < length rest → length before ≤ at + k) → Left before out at k rest all → out ≡ put before at all
   unfolding put
-  left-end h = h .left
-
--- a byte past the buffer's end is not put
-pub past-end : (out : List ℕ) (at b : ℕ) → length out ≤ at → out ≡ set out at b
-past-end out at b h = sym (set-out out at b h)
+  left-end [] h l = l .left
+  left-end (b ∷ rest) h l = sym (past-end (b ∷ rest) out (at + k) (omega (arith, h (omega arith), l .same))) ∙ l .left
 
 -- bytes
 module _ (before out : List ℕ) (at : ℕ) (s : List ℕ) where
@@ -40,10 +44,10 @@ module _ (before out : List ℕ) (at : ℕ) (s : List ℕ) where
       let n : k + 1 ≡ suc k = omega arith in
       subst (λ (m : ℕ). Left before later at (k + 1) (drop m s) s) (sym n) (left-one before out at k s later (getD s k 0) (drop (suc k) s) e (rw (drop-cons s k 0 h) at l))
 
-  pub bytes-end : (k : ℕ) → length s ≤ k → k ≤ length s → Left before out at k (drop k s) s → out ≡ put before at s
-  bytes-end k h l q =
-      let i : k ≡ length s = omega arith in
-      left-end before out at k s (rw (ap (λ (n : ℕ). drop n s) i ∙ drop-length s) at q)
+  pub bytes-end : (n k : ℕ) → Placed (length before) at (length s) n → n ≤ k → k ≤ n → Left before out at k (drop k s) s → out ≡ put before at s
+  bytes-end n k p h l q =
+      let i : k ≡ n = omega arith in
+      left-end before out at k s (drop k s) (λ z. omega (arith, p .whole (omega (arith, length-drop k s)), i)) q
 
 -- a number
 pub number-start : (out : List ℕ) (at width x : ℕ) → Left out out at 0 (bytes (width - 0) x) (bytes width x)
@@ -57,11 +61,11 @@ module _ (before out : List ℕ) (at width x : ℕ) where
       let i : width - k ≡ suc (width - (k + 1)) = omega arith in
       left-one before out at k (bytes width x) later (left % 256) (bytes (width - (k + 1)) (left / 256)) e (rw i at l)
 
-  pub number-end : (k left : ℕ) → width ≤ k → Left before out at k (bytes (width - k) left) (bytes width x) → out ≡ put before at (bytes width x)
-  unfolding bytes
-  number-end k left h l =
-      let i : width - k ≡ 0 = omega arith in
-      left-end before out at k (bytes width x) (rw i at l)
+  pub number-end : (n k left : ℕ) → Placed (length before) at width n → n ≤ k → k ≤ n → Left before out at k (bytes (width - k) left) (bytes width x)
+      → out ≡ put before at (bytes width x)
+  number-end n k left p h l q =
+      let i : k ≡ n = omega arith in
+      left-end before out at k (bytes width x) (bytes (width - k) left) (λ z. omega (arith, p .whole (omega (arith, length-bytes (width - k) left)), i)) q
 
 -- PARTS BEHIND PARTS
 

@@ -1,5 +1,5 @@
 -- What the contracts of functions cite that are not public: where a walk through a description stands, and what it has put into a buffer.
-use Prim.Native.Nat.{ℕ, _+_, _-_, _≤_}
+use Prim.Native.Nat.{ℕ, _+_, _-_, _≤_, _<_}
 use mathlib.Core.Path.{_≡_}
 use mathlib.Core.Bool.{Bool, cond, _&&_}
 use mathlib.Core.List.{List, [], _∷_, _++_}
@@ -19,6 +19,12 @@ use Rattle.policy_writer.specs.Decode.{Part, writtenType, sizeFits}
 -- bytes that are put into a buffer from an offset on; those past its end are not put
 unfoldable pub put : List ℕ → ℕ → List ℕ → List ℕ
 put out at s = sets out at s
+
+-- so many of n bytes from an offset on lie within a buffer of `room` bytes
+pub record Placed (room at n k : ℕ) : Type 0 where
+  pub most : k ≤ n
+  pub within : 0 < k → at + k ≤ room
+  pub whole : k < n → room ≤ at + k
 
 -- an element of a type is written with a body of so many bytes at the front of the bodies
 unfoldable pub elementGiven : ℕ → ℕ → List ℕ → Bool

@@ -5,6 +5,7 @@ mod permits;
 mod place;
 mod signing;
 
+pub use measures::POLICY_HASH;
 pub use measures::file_fault;
 pub use measures::policy_hash;
 pub use permits::lowest_permitting;

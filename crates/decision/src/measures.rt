@@ -11,7 +11,7 @@ ghost use Rattle.decision.specs.Answers.{fileFaultOf};
 ghost use Rattle.decision.specs.Inner.{measuredSeen};
 
 // The offset of PolicyHash in a record.
-const POLICY_HASH: usize = 38;
+pub const POLICY_HASH: usize = 38;
 
 // What is measured for a list: its bytes, or its key if it is signed.
 fn measured(file: &[u8], l: ListAnswer) -> &[u8]

@@ -178,14 +178,20 @@ unfoldable pub markCharacters : List ℕ
 markCharacters =
     73 ∷ 110 ∷ 116 ∷ 101 ∷ 108 ∷ 40 ∷ 82 ∷ 41 ∷ 32 ∷ 84 ∷ 88 ∷ 84 ∷ 32 ∷ 76 ∷ 67 ∷ 80 ∷ 95 ∷ 80 ∷ 79 ∷ 76 ∷ 73 ∷ 67 ∷ 89 ∷ 95 ∷ 68 ∷ 65 ∷ 84 ∷ 65 ∷ []
 
+abbrev pub fourZeros : List ℕ
+fourZeros = 0 ∷ 0 ∷ 0 ∷ 0 ∷ []
+
+abbrev pub threeZeros : List ℕ
+threeZeros = 0 ∷ 0 ∷ 0 ∷ []
+
 abbrev pub mostLists : ℕ
 mostLists = 8
 
 pub record ValidReading (r : Reading) : Type 0 where
   -- "the 28 characters .. and 4 zeros; 3 zeros"
   pub marked : r .mark ≡ markCharacters
-  pub mark-zeros : r .markZeros ≡ 0 ∷ 0 ∷ 0 ∷ 0 ∷ []
-  pub reserved-zeros : r .reserved ≡ 0 ∷ 0 ∷ 0 ∷ []
+  pub mark-zeros : r .markZeros ≡ fourZeros
+  pub reserved-zeros : r .reserved ≡ threeZeros
   -- "list count (8) 1 to 8"
   pub one-or-more : 1 ≤ r .listCount
   pub eight-or-fewer : r .listCount ≤ mostLists

@@ -2,11 +2,11 @@
 -- are left change no string that is accepted, but say that "a size, or a 0x10 or 0x14 count, that reaches past what holds it is that field's fault".
 use Prim.Native.Nat.{ℕ, _+_, _*_, _-_}
 use mathlib.Core.Bool.{Bool, cond, _&&_, _||_}
-use mathlib.Core.List.{List, [], _∷_, _++_}
+use mathlib.Core.List.{List, _++_}
 use lib.ListN.{take, drop}
 use lib.Dec.{leb, eqb}
 use Rattle.field.specs.Field.{same}
-use Rattle.policy_grammar.specs.Grammar.{Digests, Body, Element, digestLength, launchType, stmType, Signing, unsignedAlgorithm, PolicyList, Reading, markCharacters, mostLists}
+use Rattle.policy_grammar.specs.Grammar.{Digests, Body, Element, digestLength, launchType, stmType, Signing, unsignedAlgorithm, PolicyList, Reading, markCharacters, fourZeros, threeZeros, mostLists}
 use Rattle.policy_grammar.specs.Grammar as Grammar
 use Rattle.policy_grammar.specs.Format.{Format, _>>=_, done, number, string, any, anyBytes, rest, inside, times, many}
 
@@ -76,8 +76,8 @@ list = do
 -- missing is at fault itself
 unfoldable pub file : Format Reading
 file = do
-  m ← string 32 (λ b. same b (markCharacters ++ (0 ∷ 0 ∷ 0 ∷ 0 ∷ [])))
-  z ← string 3 (λ b. same b (0 ∷ 0 ∷ 0 ∷ []))
+  m ← string 32 (λ b. same b (markCharacters ++ fourZeros))
+  z ← string 3 (λ b. same b threeZeros)
   n ← number 1 (λ left n. leb 1 n && leb n mostLists)
   ls ← times n list
   done (record { mark = take 28 m; markZeros = drop 28 m; reserved = z; listCount = n; lists = ls })

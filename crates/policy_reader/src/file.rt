@@ -3,8 +3,10 @@ use crate::Extent;
 use crate::FIRST_LIST;
 use crate::LARGEST_FILE;
 use crate::LEAST_FILE;
+use crate::LIST_COUNT;
 use crate::MARK;
 use crate::MOST_LISTS;
+use crate::ZEROS;
 use crate::lists::lists_extent;
 use crate::numbers::number;
 use policy_answers::FileAnswer;
@@ -12,11 +14,6 @@ ghost use mathlib.Core.Path.{_≡_};
 ghost use Rattle.policy_grammar.specs.Decode.{accepted};
 ghost use Rattle.policy_answers.specs.Answers.{fileAnswer};
 ghost use Rattle.policy_reader.specs.Readings.{ReadExactly};
-
-// The offsets of the zeros behind the mark, and of the list count.
-const ZEROS: usize = 32;
-
-const LIST_COUNT: usize = 35;
 
 // The answer for s, field by field in file order. A string of the least size has all the fields before its lists.
 fn tested(s: &[u8]) -> FileAnswer

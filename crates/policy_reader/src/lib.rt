@@ -19,6 +19,14 @@ pub use lists::known_version;
 // The mark of every file: 28 characters and 4 zeros.
 pub const MARK: [u8; 32] = *b"Intel(R) TXT LCP_POLICY_DATA\0\0\0\0";
 
+// The offsets of the zeros behind the mark, and of the list count.
+pub const ZEROS: usize = 32;
+
+pub const LIST_COUNT: usize = 35;
+
+// The signature algorithm of a list that is not signed.
+pub const UNSIGNED: usize = 0x0010;
+
 // The offset of the first list of every file.
 pub const FIRST_LIST: usize = 36;
 

@@ -1,5 +1,6 @@
 // Lists, field by field in file order: how many bytes one takes, whether so many lists fill a part, or where the first fault is.
 use crate::Extent;
+use crate::UNSIGNED;
 use crate::elements::elements_extent;
 use crate::extents::further;
 use crate::numbers::one_of;
@@ -56,7 +57,7 @@ fn first_extent(t: &[u8]) -> Extent
         Field::Number(n) => n as usize,
         Field::Outside(at) => return Extent::Fault(at),
     };
-    if !one_of(algorithm, 0x0010, 0x0014) {
+    if !one_of(algorithm, UNSIGNED, 0x0014) {
         return Extent::Fault(2);
     }
     let end = match field::read(t, 4, 4) {

@@ -1,16 +1,14 @@
 -- What `write` answers, by the tests that lead to each answer, and the policy record.
-use Prim.Native.Nat.{ℕ, _+_, _-_, _≤_, _<_}
+use Prim.Native.Nat.{ℕ, _-_, _≤_, _<_}
 use native.Mathlib.Omega.{arith}
 use mathlib.Core.Path.{_≡_, refl, ap, sym, _∙_}
-use mathlib.Core.Bool.{Bool, true, false, cond}
 use mathlib.Core.List.{List, [], _∷_, _++_, append-nil}
-use mathlib.Core.Option.{Option, some, none}
-use lib.ListN.{length, take, drop, replicate, length-append, length-drop}
-use lib.Seq.{take-at, drop-length, take-all}
+use mathlib.Core.Option.{some}
+use lib.ListN.{length, take, drop, length-append}
+use lib.Seq.{take-at, drop-length}
 use borrow.Author.Tests.{le-leb, lt-leb}
 use Rattle.field.specs.Number.{Bytes}
-use Rattle.policy_grammar.specs.Grammar.{Reading, fileBytes, Makes}
-use Rattle.policy_grammar.specs.Decode.{accepted}
+use Rattle.policy_grammar.specs.Grammar.{Reading, fileBytes}
 use Rattle.policy_reader.proofs.Places.{accepted-complete}
 use Rattle.decision.specs.Lists.{hashOf, listsOf}
 use Rattle.policy_writer.specs.declared.Cursor.{Cursor}
@@ -18,8 +16,8 @@ use Rattle.policy_writer.specs.declared.Next.{Next}
 use Rattle.policy_writer.specs.declared.Next.the-variants.{Nothing, At}
 use Rattle.policy_writer.specs.declared.Written.{Written}
 use Rattle.policy_writer.specs.Decode.{described, file}
-use Rattle.policy_writer.specs.Inner.{put, Start, partAt, behind, nextOf, Put}
-use Rattle.policy_writer.specs.Answers.{refused, written, answerFor, bufferFor}
+use Rattle.policy_writer.specs.Inner.{put, Start, behind, nextOf, Put}
+use Rattle.policy_writer.specs.Answers.{refused, answerFor, bufferFor}
 use Rattle.policy_writer.specs.Writing.{Words}
 use Rattle.policy_writer.proofs.Buffer.{put-behind, put-front}
 use Rattle.policy_writer.proofs.Rows.{found, found-not}

@@ -1,10 +1,9 @@
 -- Bytes put into a buffer, one after the other and part behind part. The invariant of a loop: what is left to put gives the buffer that all of it gives.
-use Prim.Native.Nat.{ℕ, zero, suc, _+_, _-_, _/_, _%_, _≤_, _<_}
+use Prim.Native.Nat.{ℕ, suc, _+_, _-_, _/_, _%_, _≤_, _<_}
 use native.Mathlib.Nat.{add-zero}
 use native.Mathlib.Omega.{arith}
 use mathlib.Core.Path.{_≡_, refl, ap, sym, subst, _∙_}
-use mathlib.Core.Logic.{_≢_}
-use mathlib.Core.List.{List, [], _∷_, _++_, append-assoc}
+use mathlib.Core.List.{List, [], _∷_, _++_}
 use lib.ListN.{length, drop, getD, set, length-set, length-drop}
 use lib.Seq.{sets, length-sets, sets-eq, set-comm, set-out, drop-cons}
 use Rattle.field.specs.Number.{bytes}

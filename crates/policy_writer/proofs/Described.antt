@@ -11,7 +11,7 @@ use lib.Dec.{leb}
 use borrow.Author.Tests.{le-leb, leb-true}
 use Rattle.field.specs.Number.{Bytes}
 use Rattle.policy_grammar.specs.Grammar.{All, PolicyList, ValidList, Reading, ValidReading, mostLists}
-use Rattle.policy_writer.specs.Descriptions.{listNumbers, listBodies, Unsigned, Describe}
+use Rattle.policy_writer.specs.Descriptions.{listNumbers, listBodies, Describable, Describe}
 use Rattle.policy_writer.specs.Decode.{andThen, row, list, readingWith, wholeReading, described}
 use Rattle.policy_writer.specs.Writing.{Words, DescribedExactly}
 use Rattle.policy_writer.proofs.Fronts.{row-counted, times-sound, list-sound}
@@ -87,7 +87,7 @@ decoded-describe ns bs r w b s =
     rw (s .is)
     (record {
       valid = valid;
-      unsigned = each GoodList Unsigned (λ l g. g .1) ls all;
+      describable = each GoodList Describable (λ l g. g .1) ls all;
       numbered = rw (s .numbers, counted) (ap (λ (t : List ℕ). s .count ∷ t) (whole (flatMap listNumbers ls) (s .others) (front .numbers) (s .no-numbers)));
       embodied = whole (flatMap listBodies ls) bs (front .bodies) (s .no-bodies);
     })
@@ -120,7 +120,7 @@ describe-decoded ns bs r d =
     let ls : List PolicyList = r .lists in
     rw (← d .numbered, ← d .embodied)
     (ap (λ (n : ℕ). described (n ∷ flatMap listNumbers ls) (flatMap listBodies ls)) (sym (v .counted))
-    ∙ decoded ls (omega (arith, v .counted, v .one-or-more)) (omega (arith, v .counted, v .eight-or-fewer)) (both ValidList Unsigned ls (v .lists-valid) (d .unsigned))
+    ∙ decoded ls (omega (arith, v .counted, v .one-or-more)) (omega (arith, v .counted, v .eight-or-fewer)) (both ValidList Describable ls (v .lists-valid) (d .describable))
     ∙ ap some (reading-is r v))
 
 pub described-exactly : DescribedExactly

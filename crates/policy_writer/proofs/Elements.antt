@@ -4,15 +4,15 @@ use native.Mathlib.Nat.{add-zero}
 use native.Mathlib.Omega.{arith}
 use mathlib.Core.Path.{_≡_, refl, ap, sym, _∙_}
 use mathlib.Core.Bool.{Bool, true, false, cond, not, _&&_, true≢false, false≢true}
-use mathlib.Core.List.{List, [], _∷_, _++_}
+use mathlib.Core.List.{List}
 use mathlib.Core.Option.{Option, some, none, Option·map}
-use lib.ListN.{length, take, drop, getD, length-drop, length-append}
+use lib.ListN.{length, take, drop, getD, length-drop}
 use lib.Seq.{getD-drop, length-take-le}
-use lib.Dec.{leb, ltb}
+use lib.Dec.{leb}
 use borrow.Author.Tests.{le-leb, lt-leb, leb-true, lt-ltb, le-ltb, not-true, not-false}
 use mir.Val.{Fits}
 use mir.Syntax.{w8}
-use Rattle.field.specs.Number.{Bytes, bytes}
+use Rattle.field.specs.Number.{bytes}
 use Rattle.field.proofs.Laws.{length-bytes, bytes-take, bytes-drop}
 use Rattle.policy_grammar.specs.Grammar.{Body, bodyBytes, elementBytes}
 use Rattle.policy_grammar.specs.Parser.{valueOf, isSome, filling}
@@ -22,7 +22,7 @@ use Rattle.policy_writer.specs.declared.Cursor.{Cursor}
 use Rattle.policy_writer.specs.declared.Next.{Next}
 use Rattle.policy_writer.specs.declared.Next.the-variants.{Nothing, At}
 use Rattle.policy_writer.specs.Decode.{Part, writtenType, sizeFits, elementWith, elementOf, frontElement, element}
-use Rattle.policy_writer.specs.Inner.{put, elementGiven, elementText, partAt, nextOf, putOf, Put}
+use Rattle.policy_writer.specs.Inner.{put, elementGiven, elementText, partAt, nextOf, Put}
 use Rattle.policy_writer.proofs.Buffer.{put-two}
 
 -- WHETHER IT IS WRITTEN

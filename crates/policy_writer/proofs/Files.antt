@@ -1,10 +1,10 @@
 -- A file of a description: the tests that lead to each answer, and the bytes that are put.
-use Prim.Native.Nat.{ℕ, _+_, _-_, _≤_, _<_}
+use Prim.Native.Nat.{ℕ, _+_, _≤_, _<_}
 use native.Mathlib.Omega.{arith}
-use mathlib.Core.Path.{_≡_, refl, ap, sym, _∙_}
-use mathlib.Core.Bool.{Bool, true, false, cond, _&&_, and-false}
-use mathlib.Core.List.{List, [], _∷_, _++_, flatMap, append-assoc}
-use mathlib.Core.Option.{Option, some, none}
+use mathlib.Core.Path.{_≡_, ap, sym, _∙_}
+use mathlib.Core.Bool.{and-false}
+use mathlib.Core.List.{List, [], _++_, flatMap, append-assoc, append-nil}
+use mathlib.Core.Option.{some}
 use lib.ListN.{length, drop, getD, length-append}
 use lib.Dec.{leb}
 use borrow.Author.Tests.{le-leb, lt-leb}
@@ -16,19 +16,19 @@ use Rattle.policy_writer.specs.declared.Next.{Next}
 use Rattle.policy_writer.specs.declared.Next.the-variants.{Nothing, At}
 use Rattle.policy_writer.specs.Descriptions.{listNumbers, listBodies}
 use Rattle.policy_writer.specs.Decode.{andThen, times, list, readingWith, wholeReading, described, file}
-use Rattle.policy_writer.specs.Inner.{put, fileHead, Start, partAt, behind, nextOf, putOf, Put}
+use Rattle.policy_writer.specs.Inner.{put, fileHead, Start, partAt, nextOf, Put}
 use Rattle.policy_writer.proofs.Buffer.{put-two}
 use Rattle.policy_writer.proofs.Rows.{cursor, found, found-not}
 use Rattle.policy_writer.proofs.Fronts.{row-counted}
 
 -- the bytes of a file are what is put before its lists, and those of the lists
 head-length : (n : ℕ) → length (fileHead n) ≡ 36
-unfolding fileHead markCharacters
-head-length n = omega (arith, length-bytes 1 n)
+unfolding fileHead flatMap markCharacters
+head-length n = omega (arith, length-bytes 1 n, length-append (bytes 1 n) [])
 
 file-bytes : (ls : List PolicyList) → fileBytes (readingWith ls) ≡ fileHead (length ls) ++ flatMap listBytes ls
-unfolding fileHead
-file-bytes ls = simp append-assoc
+unfolding fileHead flatMap
+file-bytes ls = simp (append-assoc, append-nil)
 
 -- where the lists start
 abbrev pub first : Cursor

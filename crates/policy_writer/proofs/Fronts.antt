@@ -2,23 +2,20 @@
 use Prim.Native.Nat.{ℕ, zero, suc, _+_, _≤_, _<_, _^_}
 use native.Mathlib.Omega.{arith}
 use mathlib.Core.Path.{_≡_, refl, ap, sym, _∙_}
-use mathlib.Core.Logic.{_⊎_}
-use mathlib.Core.Bool.{Bool, true, false, cond, _&&_, and-eq-true-iff}
+use mathlib.Core.Bool.{Bool, true, false, cond, _&&_}
 use mathlib.Core.List.{List, [], _∷_, _++_, flatMap, append-assoc}
 use mathlib.Core.Option.{Option, some, none, Option·map}
-use lib.ListN.{length, take, drop, getD, length-append, take-append-drop}
+use lib.ListN.{length, take, drop, length-append, take-append-drop}
 use lib.Seq.{length-take-le, drop-drop}
 use lib.Dec.{leb}
-use borrow.Author.Tests.{le-leb, lt-ltb, leb-true, ltb-true}
+use borrow.Author.Tests.{le-leb, leb-true, ltb-true}
 use Rattle.field.specs.Number.{Bytes}
 use Rattle.field.proofs.Laws.{bytes-take, bytes-drop}
-use Rattle.policy_grammar.specs.Grammar.{All, Body, bodyBytes, launchType, customType, Element, elementBytes, ValidBody, ValidElement, Signing, PolicyList, ValidSigning, ValidList, unsignedAlgorithm}
-use Rattle.policy_grammar.specs.Grammar as Grammar
+use Rattle.policy_grammar.specs.Grammar.{Body, bodyBytes, Element, elementBytes, ValidBody, PolicyList}
 use Rattle.policy_grammar.specs.Parser.{valueOf, filling}
 use Rattle.policy_grammar.specs.Layout as Layout
 use Rattle.policy_grammar.specs.Layout.{knownVersion}
 use Rattle.policy_grammar.proofs.Decoding.{body-made}
-use Rattle.policy_writer.specs.Descriptions.{elementNumbers, elementBody, listNumbers, listBodies, Written, Unsigned}
 use Rattle.policy_writer.specs.Decode.{Part, andThen, row, times, writtenType, sizeFits, elementWith, frontElement, element, listWith, sizedList, frontList, list}
 use Rattle.policy_writer.proofs.Rows.{Front, Sound}
 

@@ -1,36 +1,34 @@
 -- A list of a description: the tests that lead to each answer, and the bytes that are put.
-use Prim.Native.Nat.{ℕ, _+_, _-_, _≤_, _<_, _^_}
+use Prim.Native.Nat.{ℕ, _+_, _-_, _≤_, _<_}
 use native.Mathlib.Nat.{add-zero}
 use native.Mathlib.Omega.{arith}
 use mathlib.Core.Path.{_≡_, refl, ap, sym, _∙_}
-use mathlib.Core.Bool.{Bool, true, false, cond, not, _&&_}
-use mathlib.Core.List.{List, [], _∷_, _++_, flatMap, append-assoc, append-nil}
+use mathlib.Core.Bool.{Bool, true, false, cond, not}
+use mathlib.Core.List.{List, _++_, flatMap, append-assoc, append-nil}
 use mathlib.Core.Option.{Option, some, none}
 use lib.ListN.{length, drop, getD, length-append, length-drop}
 use lib.Seq.{getD-drop, drop-drop}
-use lib.Dec.{leb}
 use borrow.Author.Tests.{le-leb, lt-leb, not-true, not-false}
 use Rattle.field.specs.Number.{bytes}
 use Rattle.field.proofs.Laws.{length-bytes}
-use Rattle.policy_grammar.specs.Grammar.{Element, elementBytes, PolicyList, listBytes, unsignedAlgorithm}
+use Rattle.policy_grammar.specs.Grammar.{Element, elementBytes, PolicyList, listBytes}
 use Rattle.policy_grammar.specs.Layout.{knownVersion}
 use Rattle.policy_writer.specs.declared.Cursor.{Cursor}
 use Rattle.policy_writer.specs.declared.Next.{Next}
 use Rattle.policy_writer.specs.declared.Next.the-variants.{Nothing, At}
-use Rattle.policy_writer.specs.Descriptions.{elementNumbers, listNumbers}
 use Rattle.policy_writer.specs.Decode.{andThen, times, sizeFits, element, listWith, sizedList, frontList, list}
-use Rattle.policy_writer.specs.Inner.{put, listHead, partAt, behind, nextOf, upTo, putOf, Put}
+use Rattle.policy_writer.specs.Inner.{put, listHead, partAt, behind, nextOf, upTo, Put}
 use Rattle.policy_writer.proofs.Buffer.{put-before}
 use Rattle.policy_writer.proofs.Rows.{cursor, found}
 use Rattle.policy_writer.proofs.Fronts.{list-shape}
 
 -- the bytes of a list are what is put before its elements, and those of the elements
 head-length : (version size : ℕ) → length (listHead version size) ≡ 8
-unfolding listHead
+unfolding listHead flatMap
 head-length version size = simp (length-append, length-bytes)
 
 list-bytes : (version : ℕ) (es : List Element) → listBytes (listWith version es) ≡ listHead version (length (flatMap elementBytes es)) ++ flatMap elementBytes es
-unfolding listHead
+unfolding listHead flatMap
 list-bytes version es = simp (append-assoc, append-nil)
 
 module _ (ns bs : List ℕ) (c : Cursor) where

@@ -1,21 +1,20 @@
 -- A walk through so many parts, one behind the other. What is left to walk gives what the whole gives: where the walk ends, and the buffer.
-use Prim.Native.Nat.{ℕ, zero, suc, _+_, _-_, _^_, _≤_, _<_}
+use Prim.Native.Nat.{ℕ, suc, _+_, _-_, _^_, _≤_, _<_}
 use native.Mathlib.Omega.{arith}
-use native.Mathlib.Nat.{add-assoc}
 use mathlib.Core.Path.{_≡_, refl, ap, sym, subst, _∙_}
-use mathlib.Core.List.{List, [], _∷_, _++_, flatMap, append-assoc, append-nil}
+use mathlib.Core.List.{List, _∷_, _++_, flatMap}
 use mathlib.Core.Option.{Option, some, none, Option·map}
 use lib.ListN.{length, drop, length-append, length-drop}
-use lib.Seq.{drop-drop, drop-append-add}
+use lib.Seq.{drop-drop}
 use borrow.Author.Tests.{lt-ltb, le-ltb}
 use Rattle.field.specs.Number.{Bytes}
 use Rattle.field.proofs.Laws.{bytes-drop}
 use Rattle.policy_writer.specs.declared.Cursor.{Cursor}
 use Rattle.policy_writer.specs.declared.Next.{Next}
 use Rattle.policy_writer.specs.declared.Next.the-variants.{Nothing, At}
-use Rattle.policy_writer.specs.Decode.{Part, andThen, row, times}
+use Rattle.policy_writer.specs.Decode.{Part, row, times}
 use Rattle.policy_writer.specs.Inner.{put, partAt, behind, nextOf, upTo, putOf, Put}
-use Rattle.policy_writer.proofs.Buffer.{put-behind, put-same}
+use Rattle.policy_writer.proofs.Buffer.{put-behind}
 
 -- the numbers and the bodies of a part stand at the front, and what is behind them is left
 pub record Front (P : Part) (ns bs : List ℕ) (a : P .Value) : Type 0 where

@@ -13,7 +13,7 @@ use Rattle.field.proofs.Laws.{bytes-take, bytes-drop}
 use Rattle.policy_grammar.specs.Grammar.{All, bodyBytes, launchType, customType, Element, elementBytes, ValidElement, Signing, unsignedAlgorithm, ValidSigning, PolicyList, ValidList}
 use Rattle.policy_grammar.specs.Grammar as Grammar
 use Rattle.policy_grammar.proofs.Decoding.{one-of, which-of, body-made, body-read, element-length}
-use Rattle.policy_writer.specs.Descriptions.{elementNumbers, Written, listNumbers, Unsigned}
+use Rattle.policy_writer.specs.Descriptions.{elementNumbers, WrittenType, listNumbers, Describable}
 use Rattle.policy_writer.specs.Decode.{Part, row, times, elementWith, frontElement, element, listWith, frontList, list}
 use Rattle.policy_writer.specs.Writing.{Words}
 use Rattle.policy_writer.proofs.Fronts.{element-shape, row-shape, row-none, list-shape}
@@ -65,7 +65,7 @@ module _ (P : Part) (Q : P .Value → Type 0) where
 -- AN ELEMENT
 
 abbrev pub GoodElement : Element → Type 0
-GoodElement e = ValidElement e × Written e
+GoodElement e = ValidElement e × WrittenType e
 
 pub element-obeys : Obeys element GoodElement
 element-obeys ns bs e w b q =
@@ -96,7 +96,7 @@ element-found e ns bs (v, t) =
 -- A LIST
 
 abbrev pub GoodList : PolicyList → Type 0
-GoodList l = ValidList l × Unsigned l
+GoodList l = ValidList l × Describable l
 
 -- the algorithm of a list that is not signed
 algorithm : (a : ℕ) (g : Signing) → g ≡ Grammar.unsigned → ValidSigning a g → a ≡ unsignedAlgorithm
@@ -116,7 +116,7 @@ list-obeys ns bs l w b q =
       elements-valid = each GoodElement ValidElement (λ e g. g .0) (s .elements) all;
       signing-valid = refl;
     } in
-    rw (s .is) (valid, record { unsigned = refl; types = each GoodElement Written (λ e g. g .1) (s .elements) all })
+    rw (s .is) (valid, record { unsigned = refl; types = each GoodElement WrittenType (λ e g. g .1) (s .elements) all })
 
 pub list-found : Found list GoodList
 unfolding frontList
@@ -129,7 +129,7 @@ list-found l ns bs (v, u) =
     rw (
       le-leb 2 (length (listNumbers l ++ ns)) (omega arith),
       one-of (l .version) 0x0200 0x0201 (v .version-known),
-      row-found element GoodElement element-found es ns bs (both ValidElement Written es (v .elements-valid) (u .types)),
+      row-found element GoodElement element-found es ns bs (both ValidElement WrittenType es (v .elements-valid) (u .types)),
       lt-ltb (length (flatMap elementBytes es)) (256 ^ 4) fits,
     )
     (λ i. some (record { version = l .version; signatureAlgorithm = alg i; elementsSize = size i; elements = es; signing = signing i }))

@@ -76,7 +76,7 @@ writes-back file r fields buffer b e u room =
     let (m, z) = accepted-sound file r b e in
     let most : length file ≤ largestFile = leb-true (length file) largestFile (and-eq-true-iff (leb leastFile (length file)) _ .0 z .1) in
     let d : described (numbersOf r) (bodiesOf r) ≡ some r =
-    describe-decoded (numbersOf r) (bodiesOf r) r (record { valid = m .valid; unsigned = u; numbered = refl; embodied = refl }) in
+    describe-decoded (numbersOf r) (bodiesOf r) r (record { valid = m .valid; describable = u; numbered = refl; embodied = refl }) in
     let s = succeeds fields buffer r (rw (m .made) most) (rw (m .made) room) in
     record {
       words = file-words r (m .valid);

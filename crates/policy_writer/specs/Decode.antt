@@ -6,7 +6,7 @@ use mathlib.Core.List.{List, [], _∷_, flatMap}
 use mathlib.Core.Option.{Option, some, none, Option·map}
 use lib.ListN.{length, take, drop, getD}
 use lib.Dec.{leb, ltb, eqb}
-use Rattle.policy_grammar.specs.Grammar.{Body, Element, elementBytes, launchType, customType, PolicyList, listBytes, Reading, fileBytes, markCharacters, mostLists, unsignedAlgorithm}
+use Rattle.policy_grammar.specs.Grammar.{Body, Element, elementBytes, launchType, customType, PolicyList, listBytes, Reading, fileBytes, markCharacters, fourZeros, threeZeros, mostLists, unsignedAlgorithm}
 use Rattle.policy_grammar.specs.Grammar as Grammar
 use Rattle.policy_grammar.specs.Layout as Layout
 use Rattle.policy_grammar.specs.Layout.{knownVersion}
@@ -64,15 +64,18 @@ abbrev pub element : Part
 element = record { Value = Element; numbers = elementNumbers; bodies = elementBody; bytes = elementBytes; front = frontElement }
 
 -- a list: a version of the grammar, so many elements, and an elements size of 32 bits
-abbrev pub listWith : ℕ → List Element → PolicyList
-listWith version es =
+abbrev pub listOf : ℕ → ℕ → List Element → PolicyList
+listOf version size es =
     record {
       version = version;
       signatureAlgorithm = unsignedAlgorithm;
-      elementsSize = length (flatMap elementBytes es);
+      elementsSize = size;
       elements = es;
       signing = Grammar.unsigned;
     }
+
+abbrev pub listWith : ℕ → List Element → PolicyList
+listWith version es = listOf version (length (flatMap elementBytes es)) es
 
 abbrev pub sizedList : ℕ → List Element → Option PolicyList
 sizedList version es = cond (sizeFits (length (flatMap elementBytes es))) (some (listWith version es)) none
@@ -87,15 +90,18 @@ abbrev pub list : Part
 list = record { Value = PolicyList; numbers = listNumbers; bodies = listBodies; bytes = listBytes; front = frontList }
 
 -- a file: one to eight lists, and nothing after
-abbrev pub readingWith : List PolicyList → Reading
-readingWith ls =
+abbrev pub readingOf : ℕ → List PolicyList → Reading
+readingOf count ls =
     record {
       mark = markCharacters;
-      markZeros = 0 ∷ 0 ∷ 0 ∷ 0 ∷ [];
-      reserved = 0 ∷ 0 ∷ 0 ∷ [];
-      listCount = length ls;
+      markZeros = fourZeros;
+      reserved = threeZeros;
+      listCount = count;
       lists = ls;
     }
+
+abbrev pub readingWith : List PolicyList → Reading
+readingWith ls = readingOf (length ls) ls
 
 abbrev pub wholeReading : List ℕ → List ℕ → List PolicyList → Option Reading
 wholeReading ns bs ls =

@@ -31,16 +31,16 @@ abbrev pub bodiesOf : Reading → List ℕ
 bodiesOf r = flatMap listBodies (r .lists)
 
 -- "unsigned lists, given as descriptions of type 0x10 and type 3 elements"
-abbrev pub Written : Element → Type 0
-Written e = (e .type ≡ launchType) ⊎ (e .type ≡ customType)
+abbrev pub WrittenType : Element → Type 0
+WrittenType e = (e .type ≡ launchType) ⊎ (e .type ≡ customType)
 
-pub record Unsigned (l : PolicyList) : Type 0 where
+pub record Describable (l : PolicyList) : Type 0 where
   pub unsigned : l .signing ≡ Grammar.unsigned
-  pub types : All Written (l .elements)
+  pub types : All WrittenType (l .elements)
 
 -- the numbers and the bodies describe the reading: it is of the grammar, of unsigned lists with elements of these two types, and they are its own
 pub record Describe (numbers bodies : List ℕ) (r : Reading) : Type 0 where
   pub valid : ValidReading r
-  pub unsigned : All Unsigned (r .lists)
+  pub describable : All Describable (r .lists)
   pub numbered : numbersOf r ≡ numbers
   pub embodied : bodiesOf r ≡ bodies

@@ -2,19 +2,19 @@
 use Prim.Native.Nat.{ℕ, _+_, _-_, _≤_, _<_}
 use mathlib.Core.Path.{_≡_}
 use mathlib.Core.Bool.{Bool, cond, _&&_}
-use mathlib.Core.List.{List, [], _∷_, _++_}
+use mathlib.Core.List.{List, []}
 use mathlib.Core.Option.{Option, some, none}
 use lib.ListN.{length, take, drop}
 use lib.Seq.{sets}
 use lib.Dec.{leb}
-use Rattle.field.specs.Number.{bytes}
-use Rattle.policy_grammar.specs.Grammar.{markCharacters, unsignedAlgorithm}
+use Rattle.policy_grammar.specs.Grammar.{elementBytes, listBytes, fileBytes}
+use Rattle.policy_grammar.specs.Grammar as Grammar
 use Rattle.policy_grammar.specs.Parser.{valueOf, isSome, filling}
 use Rattle.policy_grammar.specs.Layout as Layout
 use Rattle.policy_writer.specs.declared.Cursor.{Cursor}
 use Rattle.policy_writer.specs.declared.Next.{Next}
 use Rattle.policy_writer.specs.declared.Next.the-variants.{Nothing, At}
-use Rattle.policy_writer.specs.Decode.{Part, writtenType, sizeFits}
+use Rattle.policy_writer.specs.Decode.{Part, writtenType, sizeFits, elementWith, listOf, readingOf}
 
 -- bytes that are put into a buffer from an offset on; those past its end are not put
 unfoldable pub put : List ℕ → ℕ → List ℕ → List ℕ
@@ -31,15 +31,16 @@ unfoldable pub elementGiven : ℕ → ℕ → List ℕ → Bool
 elementGiven type n bs =
     writtenType type && (sizeFits (12 + n) && (leb n (length bs) && isSome (valueOf (filling (Layout.body type) (take n bs)))))
 
--- the bytes of an element with a body, of a list before its elements, and of a file before its lists
+-- the bytes of an element with a body, whatever its type; of a list before its elements, and of a file before its lists: those of a list and of a file that
+-- have none
 unfoldable pub elementText : ℕ → ℕ → List ℕ → List ℕ
-elementText type control b = bytes 4 (12 + length b) ++ (bytes 4 type ++ (bytes 4 control ++ b))
+elementText type control b = elementBytes (elementWith type control (length b) (Grammar.other b))
 
 unfoldable pub listHead : ℕ → ℕ → List ℕ
-listHead version size = bytes 2 version ++ (bytes 2 unsignedAlgorithm ++ bytes 4 size)
+listHead version size = listBytes (listOf version size [])
 
 unfoldable pub fileHead : ℕ → List ℕ
-fileHead count = markCharacters ++ ((0 ∷ 0 ∷ 0 ∷ 0 ∷ []) ++ ((0 ∷ 0 ∷ 0 ∷ []) ++ bytes 1 count))
+fileHead count = fileBytes (readingOf count [])
 
 -- where a walk starts
 abbrev pub Start : Cursor

@@ -11,9 +11,9 @@ use Rattle.policy_grammar.specs.Grammar.{All, Reading}
 use Rattle.policy_grammar.specs.Decode.{accepted}
 use Rattle.decision.specs.Answers.{fileFaultOf}
 use Rattle.policy_writer.specs.declared.Written.{Written}
-use Rattle.policy_writer.specs.Descriptions.{numbersOf, bodiesOf, Unsigned, Describe}
+use Rattle.policy_writer.specs.Descriptions.{numbersOf, bodiesOf, Describable, Describe}
 use Rattle.policy_writer.specs.Decode.{described}
-use Rattle.policy_writer.specs.Answers.{written, answerFor, bufferFor}
+use Rattle.policy_writer.specs.Answers.{answerFor, bufferFor}
 
 -- every number is one of 32 bits
 abbrev pub Words : List ℕ → Type 0
@@ -53,7 +53,7 @@ pub record WrittenBack (file : List ℕ) (r : Reading) (fields buffer : List ℕ
 abbrev pub WritesBack : Type 0
 WritesBack =
     (file : List ℕ) (r : Reading) (fields buffer : List ℕ) → Bytes file
-    → accepted file ≡ some r → All Unsigned (r .lists) → length file ≤ length buffer → WrittenBack file r fields buffer
+    → accepted file ≡ some r → All Describable (r .lists) → length file ≤ length buffer → WrittenBack file r fields buffer
 
 -- "the 70-byte record with a right PolicyHash": with the file and the record the check passes rules 27 and 28
 abbrev pub HashHolds : Type 0

@@ -2,6 +2,7 @@
 //
 // A description is numbers and bodies. The numbers are how many lists there are; of each list its version and how many elements it has; of each of its
 // elements the type, the control and the length of its body. The bodies stand one behind the other.
+use decision::POLICY_HASH;
 use policy_reader::LARGEST_FILE;
 
 mod parts;
@@ -16,9 +17,6 @@ ghost use Rattle.policy_writer.specs.Decode.{described, file};
 ghost use Rattle.policy_writer.specs.Inner.{nextOf, Start};
 ghost use Rattle.policy_writer.specs.Answers as spec;
 ghost use Rattle.policy_writer.specs.Answers.{answerFor, bufferFor};
-
-// The first bytes of the policy record, those before PolicyHash.
-const FIELDS: usize = 38;
 
 // What was written: 0, the length of the file and the policy record; or a refusal, with no length and a record of zeros.
 pub struct Written {
@@ -56,7 +54,7 @@ fn policy_record(fields: [u8; 38], hash: [u8; 32]) -> [u8; 70]
 {
     let mut record = [0u8; 70];
     puts::put_bytes(&mut record, 0, &fields);
-    puts::put_bytes(&mut record, FIELDS, &hash);
+    puts::put_bytes(&mut record, POLICY_HASH, &hash);
     record
 }
 

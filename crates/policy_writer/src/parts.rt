@@ -6,8 +6,11 @@ use crate::puts::put_number;
 use policy_answers::CUSTOM_TYPE;
 use policy_answers::LAUNCH_TYPE;
 use policy_reader::FIRST_LIST;
+use policy_reader::LIST_COUNT;
 use policy_reader::MARK;
 use policy_reader::MOST_LISTS;
+use policy_reader::UNSIGNED;
+use policy_reader::ZEROS;
 ghost use mathlib.Core.Path.{_≡_};
 ghost use Prim.Native.Nat.{_≤_, _<_, _^_};
 ghost use lib.ListN.{length as ListN·length, drop};
@@ -17,9 +20,6 @@ ghost use Rattle.policy_writer.specs.Inner.{put, elementGiven, elementTe
 
 // The largest number of 32 bits: that of an element's size, and of the size of a list's elements.
 const LARGEST_SIZE: usize = 0xFFFF_FFFF;
-
-// The signature algorithm of a list that is not signed.
-const UNSIGNED: usize = 0x0010;
 
 fn wide(x: u32) -> usize
     ensures { λ r. ⌜ (r ≡ x) × (r < 2 ^ 32) ⌝ }
@@ -181,8 +181,8 @@ fn put_file_head(out: &mut [u8], count: usize)
     ensures { λ _. ⌜ now (out .exit) ≡ put (now (out .entry)) 0 (fileHead count) ⌝ }
 {
     put_bytes(out, 0, &MARK);
-    put_number(out, 32, 3, 0);
-    put_number(out, 35, 1, count);
+    put_number(out, ZEROS, 3, 0);
+    put_number(out, LIST_COUNT, 1, count);
 }
 
 // A file, from the first number and the first body on.

@@ -1,8 +1,7 @@
 -- `elements` meets its contract. The invariant: what is left to walk gives what the whole gives, and no more bytes are passed than a list may have.
 use Prim.Native.Nat.{_-_, _≤_, _^_}
-use mathlib.Core.Path.{_≡_, refl, ap, sym, _∙_}
+use mathlib.Core.Path.{_≡_, refl}
 use native.Mathlib.Omega.{arith}
-use lib.ListN.{length}
 use Rattle.policy_writer.specs.Decode.{element}
 use Rattle.policy_writer.proofs.Elements.{nothing-put}
 use Rattle.policy_writer.proofs.Rows.{Going, going-start, going-stop, going-on, going-end, going-put, limit-stop, limit-end, limit-over}

@@ -1,5 +1,4 @@
 -- `file` meets its contract: one law for each answer.
-use native.Mathlib.Omega.{arith}
 use Rattle.policy_writer.proofs.Elements.{nothing-put}
 use Rattle.policy_writer.proofs.Files.{no-numbers, no-list, many-lists, no-lists, numbers-left, bodies-left, file-next, file-put}
 use borrow.Author.Needs.{needs}

@@ -2,7 +2,7 @@
 use Prim.Native.Nat.{_≤_, _-_}
 use mathlib.Core.Path.{refl}
 use native.Mathlib.Omega.{arith}
-use lib.ListN.{length, drop}
+use lib.ListN.{drop}
 use Rattle.policy_writer.proofs.Buffer.{Left, left-start, bytes-on, bytes-end}
 use borrow.Author.Needs.{needs}
 use Rattle.policy_writer.proofs.puts.put_bytes.Statement.{statement}

@@ -33,7 +33,8 @@ same-length : tie.Need-same-length
 same-length c = search (needs, put-same, element-put)
 
 returns : tie.Need-returns
-returns c = search (needs, element-put)
+returns c =
+    element-put _ _ _ _ _ _ _ _ _ (c .before .before .before .before .before .before .before .before .before .before .before .before .before .before .put-number .ensures) (c .before .before .before .before .before .before .before .before .before .before .put-number2 .ensures) (c .before .before .before .before .before .before .put-number3 .ensures) (c .before .before .put-bytes .ensures)
 
 pub put-element-spec : {M : Type 1} → statement M
 put-element-spec =

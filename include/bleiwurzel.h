@@ -1,10 +1,10 @@
 /*
  * Bleiwurzel: whether the next Intel TXT launch will succeed. The interface of libbleiwurzel.a for C11 and C++.
  *
- * What is lent. Every pointer to `const` is lent for reading during the call and not kept; the length behind it counts what it points to. Every
- * pointer without `const` is lent for writing during the call; what is written there is said at each function. Memory that is written may not
- * overlap memory that is read or written under another name in the same call. A part of length 0 is allowed everywhere; its pointer is not
- * followed but must not be NULL (any object's address will do).
+ * What is lent. Every pointer to `const` is lent for reading during the call and not kept; a length behind it, where there is one, counts what it
+ * points to. Every pointer without `const` is lent for writing during the call; what is written there is said at each function. Memory that is
+ * written may not overlap memory that is read or written under another name in the same call. A part of length 0 is allowed everywhere; its
+ * pointer is not followed but must not be NULL (any object's address will do).
  *
  * What is asked of the caller. Nothing else: every function answers for every content and every number, ends, allocates nothing, has no state
  * of its own and may be called from several threads at once. No address is followed but those of the arguments; physical addresses are numbers.

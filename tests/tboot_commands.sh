@@ -11,7 +11,7 @@ for name in lcp2_crtpolelt lcp2_crtpollist lcp2_crtpol openssl; do
     fi
 done
 cargo build --release --offline --quiet --manifest-path "$top/rust/Cargo.toml" -p bleiwurzel
-bleiwurzel=$top/rust/target/release/bleiwurzel
+bleiwurzel=${CARGO_TARGET_DIR:-$top/rust/target}/release/bleiwurzel
 capture=$top/examples/any.cap
 folder=$(mktemp -d)
 trap 'rm -rf "$folder"' EXIT

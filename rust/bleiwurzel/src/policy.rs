@@ -209,16 +209,14 @@ pub fn hindrance(elements: impl Iterator<Item = (u64, u32)>) -> Option<String> {
     ))
 }
 
+/// The algorithms of digests: HashAlg, the bytes of a digest, and the name.
+pub const ALGORITHMS: [(u16, usize, &str); 5] =
+    [(0x0004, 20, "SHA1"), (SHA256, 32, "SHA256"), (0x000c, 48, "SHA384"), (0x000d, 64, "SHA512"), (0x0012, 32, "SM3_256")];
+
 /// The bytes of a digest of this algorithm, and its name; none for an algorithm that is not of the grammar.
 pub fn algorithm(hash_alg: u16) -> Option<(usize, &'static str)> {
-    match hash_alg {
-        0x0004 => Some((20, "SHA1")),
-        SHA256 => Some((32, "SHA256")),
-        0x000c => Some((48, "SHA384")),
-        0x000d => Some((64, "SHA512")),
-        0x0012 => Some((32, "SM3_256")),
-        _ => None,
-    }
+    let (_, length, name) = ALGORITHMS.into_iter().find(|(known, _, _)| *known == hash_alg)?;
+    Some((length, name))
 }
 
 /// Where digest k of a launch or an STM element stands. The digests fill the element up to its end.

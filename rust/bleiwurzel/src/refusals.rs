@@ -97,6 +97,13 @@ macro_rules! asks_again {
     };
 }
 
+/// What this tool makes without tboot's.
+macro_rules! policy_write {
+    () => {
+        "`bleiwurzel policy write` makes file and record from a text too; give its line `record` the old record's SINITMinVersion and counters"
+    };
+}
+
 /// Makes a policy list of a launch element, and of more.
 macro_rules! make_list {
     ($($more:literal)?) => {
@@ -637,7 +644,10 @@ pub static TEXTS: [Text; 33] = [
             "Take record and policy file from the same release; compare the two hashes that the tool shows with the release notes.",
             "Read the record from this host's TPM again; if it is the old one, it must be provisioned anew.",
         ],
-        builder: &[concat!("Make record and file in one run, and roll out both: ", make_policy!(), ". ", asks_again!())],
+        builder: &[
+            concat!("Make record and file in one run, and roll out both: ", make_policy!(), ". ", asks_again!()),
+            concat!("Of unsigned lists ", policy_write!(), "."),
+        ],
     },
     Text {
         number: 29,
@@ -707,6 +717,7 @@ pub static TEXTS: [Text; 33] = [
                 make_policy!("--rev COUNTER"),
                 ". With several lists, give one counter for each in their order, with commas between, and any number for an unsigned one."
             ),
+            concat!("Of unsigned lists that hold only types 0x10 and 3, ", policy_write!(), ", and a line `launch` the image's digest."),
             "A list that is signed again with the same key leaves PolicyHash as it was: if no other list of the file changes, and the record's \
              counters stay, only the policy file is rolled out.",
         ],
@@ -752,8 +763,8 @@ pub static TEXTS: [Text; 33] = [
         ],
         builder: &[
             "Begin each list with a line of its own, `list version=0x0201`, and have at most eight of them.",
-            "Write elements of types 0x10 and 3 only, which are the lines `launch` and `custom`. A list with STM elements, one with tboot's \
-             type 0x13, and a signed one are made by tboot's tools; the text of 29 has their command lines.",
+            "Write elements of types 0x10 and 3 only, which are the lines `launch` and `custom`. A list with STM elements and a signed one are made \
+             by tboot's tools; the text of 29 has their command lines. A list with an element of type 0x13 does not permit here.",
             "To change a policy file that is there, have its description printed, change a line of that and write it again: `bleiwurzel policy show \
              --as-description FILE --policy-record RECORD`. Without the old record, the new one asks for counters and a SINITMinVersion of 0, \
              unless lines of the description say otherwise.",

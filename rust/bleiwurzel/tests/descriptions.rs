@@ -280,23 +280,107 @@ fn ran_bytes(place: &Place, bytes: &[u8]) -> Ran {
     run(&["policy", "write", "-o", &place.file, "--record", &place.record, &place.text])
 }
 
-/// A file that is longer than an image, and bodies that are longer than all policy files together.
+/// A file that is longer than an image, and the largest image.
 #[test]
-fn long_files() {
-    let place = Place::new("long_files");
+fn long_images() {
+    let place = Place::new("long_images");
     let image = place.folder.join("image.bin");
     fs::write(&image, b"").expect("a file");
     lengthen(&image, (MOST_PAGES as u64 + 1) * PAGE_SIZE);
     let ran = place.write("list\nlaunch digest=@image.bin\n", &[]);
     let most = "'image.bin' has over 67108864 bytes, and an image has at most 16384 pages of 4096";
     assert!(ran.status == MISUSE && ran.err.contains(most), "{}", ran.err);
-    let ran = place.write(&format!("list\n{}", "custom body=@image.bin\n".repeat(20)), &[]);
-    let most = "policy.txt:17: up to here elements have over 1048576 bytes, and a policy file has at most 65536";
-    assert!(ran.status == MISUSE && ran.err.contains(most), "{}", ran.err);
     lengthen(&image, MOST_PAGES as u64 * PAGE_SIZE);
     assert_eq!(place.write("list\nlaunch digest=@image.bin\n", &[]).status, OK, "the largest image");
     let (file, _) = place.taken();
     assert_eq!(file[62..], plain_sha256::digest_in_parts(&vec![0; MOST_PAGES * PAGE], 0));
+}
+
+/// Of a body that is far longer than a policy file, not all is read, and what is said of the size says so. However many of them there are, the
+/// library answers.
+#[test]
+fn long_bodies() {
+    let place = Place::new("long_bodies");
+    let body = place.folder.join("body.bin");
+    fs::write(&body, b"").expect("a file");
+    let one = "list\ncustom body=@body.bin\ncustom body=00\n".to_string();
+    let many = format!("list\n{}", "custom body=@body.bin\n".repeat(2000));
+    let behind = format!("list\ncustom body={}\nlaunch\n{}", "00".repeat(65_462), one);
+    for (text, length, line, found) in [
+        (&one, policy::MOST as u64, 2, "65592 bytes up to here, 65605 bytes in all"),
+        (&one, policy::MOST as u64 + 1, 2, "65593 bytes or more up to here, 65606 bytes or more in all"),
+        (&one, 9 << 30, 2, "65593 bytes or more up to here, 65606 bytes or more in all"),
+        (&many, 9 << 30, 2, "65593 bytes or more up to here, 1074620 bytes or more in all"),
+        (&behind, 1, 4, "65544 bytes up to here, 65570 bytes in all"),
+        (&behind, 9 << 30, 4, "65544 bytes up to here, 131106 bytes or more in all"),
+    ] {
+        lengthen(&body, length);
+        let ran = place.write(text, &[]);
+        let words = ran.out.split_whitespace().collect::<Vec<_>>().join(" ");
+        assert!(ran.status == REFUSED && words.starts_with("refused 32, "), "{length}: {}{}", ran.out, ran.err);
+        assert!(words.contains(&format!("/policy.txt:{line}, with which ")), "{length}: {}", ran.out);
+        assert!(words.contains(&format!(" found {found} ")), "{length}: {}", ran.out);
+    }
+}
+
+/// The description of a policy file that takes the longest text for its size: launch elements without digests, with the longest words.
+#[test]
+fn the_longest_description() {
+    let place = Place::new("the_longest_description");
+    let element = [&[18, 0, 0, 0, 0x10, 0, 0, 0][..], &[0xff; 6], &[0x12, 0, 0, 0]].concat();
+    let (file, _) = policy_file(&[list(&vec![element; (policy::MOST - 44) / 18])]);
+    let path = place.folder.join("old.data").to_string_lossy().into_owned();
+    fs::write(&path, &file).expect("a policy file");
+    let text = printed(&path, &[]);
+    assert_eq!((file.len(), text.len()), (65_528, 283_956), "src/cli/policy_write.rs says so beside its limit");
+    assert_eq!(place.write(&text, &[]).status, OK);
+    assert!(place.taken().0 == file);
+    let help = run(&["policy", "write", "--help"]).out;
+    assert!(help.contains("a text file of at most 1 MiB,"), "the limit of the text: {help}");
+}
+
+/// However long a word is, the line about it is not.
+#[test]
+fn long_words() {
+    let place = Place::new("long_words");
+    let long = "7".repeat(100_001);
+    let name = "x".repeat(5000);
+    for text in [
+        format!("{long}\n"),
+        format!("list {long}\n"),
+        format!("list {long}=1\n"),
+        format!("list version={long}\n"),
+        format!("record type={long}\n"),
+        format!("record counters=1,{long}\n"),
+        format!("list\nlaunch hash-alg={long}\n"),
+        format!("list\nlaunch digest={long}\n"),
+        format!("list\nlaunch digest={long}7\n"),
+        format!("list\nlaunch digest=@{name}\n"),
+        format!("list\ncustom body={long}\n"),
+        format!("list\ncustom body=@{name}\n"),
+    ] {
+        let ran = place.write(&text, &[]);
+        let front = &text[..text.find("7777777").or(text.find("xxxxxxx")).expect("a long word")];
+        assert_eq!((ran.status, ran.out.as_str()), (MISUSE, ""), "{front}");
+        let line = ran.err.lines().next().expect("a line");
+        assert!(line.contains("77..'") || line.contains("xx..'"), "{front}: {line:.500}");
+        assert!(line.len() < place.text.len() + 350, "{front}: {} bytes", line.len());
+    }
+}
+
+/// What some editors put before a text is no part of its first line.
+#[test]
+fn a_byte_order_mark() {
+    let place = Place::new("a_byte_order_mark");
+    assert_eq!(place.write("list\ncustom body=01\n", &[]).status, OK);
+    let plain = place.taken();
+    for text in ["\u{feff}list\ncustom body=01\n", "\u{feff}# x\nlist\ncustom body=01\n"] {
+        let ran = place.write(text, &[]);
+        assert_eq!(ran.status, OK, "{}", ran.err);
+        assert_eq!(place.taken(), plain);
+    }
+    let ran = place.write("list\n\u{feff}list\n", &[]);
+    assert!(ran.status == MISUSE && ran.err.contains("policy.txt:2: no line begins with '\\u{feff}list'"), "{}", ran.err);
 }
 
 /// Descriptions that the library refuses, the number, the line and what is said of it, what was expected and what was found.
@@ -317,7 +401,7 @@ const REFUSED_DESCRIPTIONS: &[(&str, u32, &str, &str, &str)] = &[
         32,
         "policy.txt:4, with which the file grows too long",
         "at most 65536 bytes in the policy file",
-        "120076 bytes up to here, 120094 in all",
+        "120076 bytes up to here, 120094 bytes in all",
     ),
 ];
 
@@ -422,6 +506,49 @@ fn one_of_them_to_standard_output() {
     let words = ["policy", "write", "-o", "-", "--record", &place.record, &place.text];
     assert_eq!(ran(in_bash("exec \"$0\" \"$@\" > /dev/full", &words)).status, MISUSE);
     assert_eq!(place.names(), ["policy.txt"], "no record without its file");
+}
+
+/// The report of a refusal is no policy file and no record.
+#[test]
+fn a_refusal_leaves_standard_output_alone() {
+    let place = Place::new("a_refusal_leaves_standard_output_alone");
+    let refused = place.write("list version=0x0300\n", &[]);
+    assert_eq!((refused.status, refused.err.as_str()), (REFUSED, ""));
+    for (file, record) in [("-", place.record.as_str()), (place.file.as_str(), "-")] {
+        let ran = run(&["policy", "write", "-o", file, "--record", record, &place.text]);
+        assert_eq!((ran.status, ran.out.as_str(), &ran.err), (REFUSED, "", &refused.out), "{file} {record}");
+        assert_eq!(place.names(), ["policy.txt"], "{file} {record}");
+    }
+}
+
+/// Nobody is told to remove the description, under whatever name a file is to be written there.
+#[test]
+fn the_description_is_no_output() {
+    let place = Place::new("the_description_is_no_output");
+    fs::write(&place.text, "list\n").expect("a description");
+    let other = format!("{}/./policy.txt", place.folder.display());
+    for (file, record, name, flag) in [
+        (&place.text, &place.record, &place.text, "--output"),
+        (&place.file, &place.text, &place.text, "--record"),
+        (&other, &place.record, &other, "--output"),
+    ] {
+        let ran = run(&["policy", "write", "-o", file, "--record", record, &place.text]);
+        let said = format!("bleiwurzel: '{name}' is the description; choose another name for {flag}\n");
+        assert!(ran.status == MISUSE && ran.err.starts_with(&said), "{}", ran.err);
+        assert_eq!((fs::read(&place.text).expect("the description"), place.names().len()), (b"list\n".to_vec(), 1));
+    }
+}
+
+/// A description without the record says what a new record has.
+#[test]
+fn a_description_without_its_record() {
+    let place = Place::new("a_description_without_its_record");
+    assert_eq!(place.write("record sinit-min-version=3\nlist\n", &[]).status, OK);
+    let said = "# no record: its fields are left out and have their defaults, 0 for sinit-min-version and counters\n";
+    assert_eq!(printed(&place.file, &[]).matches(said).count(), 1);
+    assert!(!printed(&place.file, &["--policy-record", &place.record]).contains(said));
+    assert_eq!(RecordFields::default().counters, [0; 8]);
+    assert_eq!(RecordFields::default().sinit_min_version, 0);
 }
 
 #[test]

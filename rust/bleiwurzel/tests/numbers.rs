@@ -99,7 +99,7 @@ const NUMBERS: &[Number] = &[
     },
     Number {
         value: RECORD_FIELDS as u64,
-        rattle: &["POLICY_HASH"],
+        rattle: &["POLICY_HASH", "policy_writer::FIELDS"],
         macros: &["BLEIWURZEL_RECORD_FIELDS"],
         said: |n| vec![format!("the first {n} bytes of the record"), format!("const uint8_t fields[{n}]")],
     },
@@ -133,6 +133,8 @@ const NUMBERS: &[Number] = &[
         macros: &[],
         said: |n| vec![format!("how many lists there are, 1 to {n};")],
     },
+    // what tests/written.rs takes for the largest size of an element and of a list's elements
+    Number { value: u32::MAX as u64, rattle: &["policy_writer::LARGEST_SIZE"], macros: &[], said: nothing },
     Number {
         value: policy::LAUNCH as u64,
         rattle: &["LAUNCH_TYPE", "launchType"],

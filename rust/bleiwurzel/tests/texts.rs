@@ -154,6 +154,32 @@ fn what_is_said_of_signed_lists() {
     }
 }
 
+/// The text of 31 sends to that of 29 for what has command lines there, which a list with an element of type 0x13 has not.
+#[test]
+fn what_is_said_of_other_lists() {
+    let builder = |number| text(number).expect("a text").builder;
+    let sent: Vec<String> = builder(31).iter().flat_map(|point| sentences(point)).collect();
+    let at = sent.iter().position(|sentence| sentence == "the text of 29 has their command lines").expect("where they are");
+    for part in ["STM", "signed"] {
+        assert!(sent[at - 1].contains(part), "{part} is not in: {}", sent[at - 1]);
+    }
+    assert!(!sent[at - 1].contains("0x13"), "{}", sent[at - 1]);
+    let lines = |part: &str| builder(29).iter().any(|point| point.contains(part));
+    assert!(lines(" --type stm ") && lines("lcp2_crtpollist --sign ") && !lines(" --type custom "));
+}
+
+/// Where tboot's tools make an unsigned policy, the writer is named too, and what it is to be told of the old record.
+#[test]
+fn what_is_said_of_the_writer() {
+    for number in [28, 29] {
+        let mut points = text(number).expect("a text").builder.iter();
+        let writer = points.find(|point| point.contains("`bleiwurzel policy write`")).expect("the writer");
+        for part in ["unsigned", "`record`", "SINITMinVersion", "counters"] {
+            assert!(writer.contains(part), "{number}: {part} is not in: {writer}");
+        }
+    }
+}
+
 /// A record that is made without `--rev` and `--minver` lifts what the old one revoked, so whoever makes one is told to give them.
 #[test]
 fn no_new_record_lifts_a_revocation_unsaid() {
@@ -183,4 +209,21 @@ fn the_header_has_the_same_numbers_and_sentences() {
         let line = format!("/* {} */ BLEIWURZEL_{name} = {}{comma}", entry.meaning, entry.number);
         assert!(header.contains(&line), "the header lacks: {line}");
     }
+}
+
+/// What the header lends for reading is a pointer with its length behind it, or as many numbers as brackets say.
+#[test]
+fn lengths_of_what_is_lent() {
+    let header = words(&read("include/bleiwurzel.h").replace("\n * ", "\n "));
+    assert!(header.contains("; a length behind it, where there is one, counts what it points to."));
+    let (mut counted, mut bracketed) = (0, 0);
+    for lent in header.split("const uint").skip(1).filter_map(|declared| declared.split_once(' ')).map(|(_, lent)| lent) {
+        let (name, behind) = lent.split_at(lent.find([',', ')', ' ']).expect("an end"));
+        match name.strip_prefix('*') {
+            Some(name) if behind.starts_with(&format!(", size_t {name}_length")) => counted += 1,
+            Some(_) => panic!("no length behind {lent:.60}"),
+            None => bracketed += usize::from(name.ends_with(']')),
+        }
+    }
+    assert!(counted > 20 && bracketed == 1, "{counted} with a length, {bracketed} with brackets");
 }

@@ -65,14 +65,13 @@ fn written_with(numbers: &[u32], bodies: &[u8], fields: &[u8; RECORD_FIELDS], ro
 
 /// The numbers and bodies of a description, as include/bleiwurzel.h has them.
 fn flattened(lists: &[ListDescription]) -> (Vec<u32>, Vec<u8>) {
-    let (mut numbers, mut bodies) = (vec![lists.len() as u32], Vec::new());
-    for list in lists {
-        numbers.extend([u32::from(list.version), list.elements.len() as u32]);
-        for element in &list.elements {
-            numbers.extend([element.kind, element.control, element.body.len() as u32]);
-            bodies.extend_from_slice(&element.body);
-        }
-    }
+    let element = |element: &ElementDescription| [element.kind, element.control, element.body.len() as u32];
+    let list = |list: &ListDescription| {
+        let elements = list.elements.iter().flat_map(element);
+        [u32::from(list.version), list.elements.len() as u32].into_iter().chain(elements).collect::<Vec<u32>>()
+    };
+    let numbers = std::iter::once(lists.len() as u32).chain(lists.iter().flat_map(list)).collect();
+    let bodies = lists.iter().flat_map(|list| &list.elements).flat_map(|element| element.body.iter().copied()).collect();
     (numbers, bodies)
 }
 
@@ -121,6 +120,10 @@ fn how_many_lists() {
         let lists = vec![ListDescription { version: 0x0201, elements: vec![custom(1)] }; count];
         assert_eq!(of(&lists, ROOM), if (1..=8).contains(&count) { 0 } else { 31 }, "{count} lists");
     }
+}
+
+#[test]
+fn lists_that_are_not_there() {
     for count in [0, 2, 9, 0x101, u32::MAX] {
         assert_eq!(number(&[count, 0x0201, 0], &[], ROOM), 31, "{count} lists are said, and one is there");
     }
@@ -152,19 +155,24 @@ fn types_of_an_element() {
 
 #[test]
 fn counts_of_digests() {
-    for (hash_alg, length) in ALGORITHMS {
-        for digests in [0, 1, 2, 3, 40] {
-            for count in 0..=41u16 {
-                let expected = if usize::from(count) == digests { 0 } else { 31 };
-                let element = launching(hash_alg, count, digests * length);
-                assert_eq!(of(&one_list(vec![element]), ROOM), expected, "{hash_alg:#x}: {count} are said of {digests}");
-            }
-        }
-        for bytes in [length - 1, length + 1] {
-            assert_eq!(of(&one_list(vec![launching(hash_alg, 1, bytes)]), ROOM), 31, "{hash_alg:#x}: one of {bytes} bytes");
-        }
+    for (digests, count) in [0, 1, 2, 3, 40].into_iter().flat_map(|digests| (0..=41u16).map(move |count| (digests, count))) {
+        let expected = if usize::from(count) == digests { 0 } else { 31 };
+        let found = ALGORITHMS.map(|(hash_alg, length)| of(&one_list(vec![launching(hash_alg, count, digests * length)]), ROOM));
+        assert_eq!(found, [expected; 5], "{count} are said of {digests}");
     }
-    // Count times length is no number of 16 bits: 2,048 digests of 32 bytes are 65,536 bytes, which 16 bits have as 0.
+}
+
+#[test]
+fn lengths_of_digests() {
+    for (hash_alg, length) in ALGORITHMS {
+        let found = [length - 1, length, length + 1].map(|bytes| of(&one_list(vec![launching(hash_alg, 1, bytes)]), ROOM));
+        assert_eq!(found, [31, 0, 31], "{hash_alg:#x}: one of {length} bytes, and of one less and more");
+    }
+}
+
+/// Count times length is no number of 16 bits: 2,048 digests of 32 bytes are 65,536 bytes, which 16 bits have as 0.
+#[test]
+fn digests_past_16_bits() {
     assert_eq!(of(&one_list(vec![launching(0x000b, 2048, 0)]), ROOM), 31);
     assert_eq!(of(&one_list(vec![launching(0x000b, 0, 65_536)]), ROOM), 31);
     assert_eq!(of(&one_list(vec![launching(0x000b, 2048, 65_536)]), ROOM), 32);
@@ -199,43 +207,119 @@ fn several() -> Vec<ListDescription> {
 }
 
 #[test]
-fn numbers_and_bodies_that_do_not_add_up() {
+fn numbers_that_are_missing_or_too_many() {
     let (numbers, bodies) = flattened(&several());
     assert_eq!(number(&numbers, &bodies, ROOM), 0);
     (0..numbers.len()).for_each(|end| assert_eq!(number(&numbers[..end], &bodies, ROOM), 31, "{end} numbers"));
+    let more = [0, 3, 0x0201].map(|more| number(&[&numbers[..], &[more]].concat(), &bodies, ROOM));
+    assert_eq!(more, [31; 3], "a number more");
+    assert_eq!([number(&[], &[], ROOM), number(&[0], &[], ROOM)], [31; 2]);
+}
+
+#[test]
+fn bodies_that_are_missing_or_too_many() {
+    let (numbers, bodies) = flattened(&several());
     (0..bodies.len()).for_each(|end| assert_eq!(number(&numbers, &bodies[..end], ROOM), 31, "{end} bytes of bodies"));
-    for more in [0, 3, 0x0201] {
-        assert_eq!(number(&[&numbers[..], &[more]].concat(), &bodies, ROOM), 31, "a number more");
-    }
     assert_eq!(number(&numbers, &[&bodies[..], &[0]].concat(), ROOM), 31, "a byte of bodies more");
-    assert_eq!(number(&[], &[], ROOM), 31);
-    assert_eq!(number(&[0], &[], ROOM), 31);
-    // Each number but a control is also wrong if it is one greater or less, save that a list may be of the other version.
-    let elements = [3, 6, 11, 14];
-    for at in 0..numbers.len() {
-        let control = elements.iter().any(|element| element + 1 == at);
-        for changed in [numbers[at].wrapping_sub(1), numbers[at].wrapping_add(1)] {
-            let mut numbers = numbers.clone();
-            numbers[at] = changed;
-            let expected = if control || [0x0200, 0x0201].contains(&changed) { 0 } else { 31 };
-            assert_eq!(number(&numbers, &bodies, ROOM), expected, "number {at} as {changed:#x}");
-        }
+}
+
+/// Each number but a control is also wrong if it is one greater or less, save that a list may be of the other version.
+#[test]
+fn numbers_that_are_one_off() {
+    let (numbers, bodies) = flattened(&several());
+    let controls = [3, 6, 11, 14].map(|element| element + 1);
+    for (at, by) in (0..numbers.len()).flat_map(|at| [(at, u32::MAX), (at, 1)]) {
+        let mut numbers = numbers.clone();
+        numbers[at] = numbers[at].wrapping_add(by);
+        let right = controls.contains(&at) || [0x0200, 0x0201].contains(&numbers[at]);
+        assert_eq!(number(&numbers, &bodies, ROOM), if right { 0 } else { 31 }, "number {at} as {:#x}", numbers[at]);
     }
 }
 
-/// Lengths with which an element's size, or a sum of lengths, would not fit into 32 bits.
-#[test]
-fn lengths_past_32_bits() {
-    for length in [u32::MAX, u32::MAX - 11, u32::MAX - 12, 1 << 31] {
-        for kind in [3, 0x10] {
-            assert_eq!(number(&[1, 0x0201, 1, kind, 0, length], &[], ROOM), 31, "{length:#x}");
-            assert_eq!(number(&[1, 0x0201, 1, kind, 0, length], &[1; 20], ROOM), 31, "{length:#x}");
-        }
-        let rest = 4u32.wrapping_sub(length);
-        assert_eq!(number(&[1, 0x0201, 2, 3, 0, length, 3, 0, rest], &[1; 4], ROOM), 31, "{length:#x} and {rest:#x} are 4");
+extern "C" {
+    fn mmap(at: *mut u8, length: usize, protection: i32, flags: i32, file: i32, offset: i64) -> *mut u8;
+    fn munmap(at: *mut u8, length: usize) -> i32;
+}
+
+/// So many zeros, which may only be read. They take no memory where nobody reads them.
+struct Zeros(*mut u8, usize);
+
+impl Zeros {
+    fn new(length: usize) -> Self {
+        // PROT_READ, and MAP_PRIVATE, MAP_ANONYMOUS and MAP_NORESERVE, as Linux has them.
+        let (read, flags) = (1, 0x02 | 0x20 | 0x4000);
+        // SAFETY: new memory at an address of the system's choice.
+        let first = unsafe { mmap(std::ptr::null_mut(), length, read, flags, -1, 0) };
+        let error = std::io::Error::last_os_error();
+        assert!(first as isize != -1, "no place for {length} bytes, which this test needs though it does not fill them: {error}");
+        Zeros(first, length)
     }
+
+    fn bytes(&self, length: usize) -> &[u8] {
+        assert!(length <= self.1);
+        // SAFETY: so many bytes are there, of a mapping that lasts as long as this and is never written.
+        unsafe { std::slice::from_raw_parts(self.0, length) }
+    }
+}
+
+impl Drop for Zeros {
+    fn drop(&mut self) {
+        // SAFETY: the whole mapping, to which no slice is left.
+        unsafe { munmap(self.0, self.1) };
+    }
+}
+
+/// The number of a description of type 3 elements that are all there, by the lengths of each list's bodies.
+fn of_lengths(zeros: &Zeros, lists: &[&[u64]]) -> u32 {
+    let element = |length: &u64| [3, 0, u32::try_from(*length).expect("32 bits")];
+    let list = |lengths: &&[u64]| [vec![0x0201, lengths.len() as u32], lengths.iter().flat_map(element).collect()].concat();
+    let numbers: Vec<u32> = std::iter::once(lists.len() as u32).chain(lists.iter().flat_map(list)).collect();
+    let bodies = lists.iter().copied().flatten().sum::<u64>();
+    number(&numbers, zeros.bytes(bodies as usize), ROOM)
+}
+
+/// What the size of an element, and of a list's elements, counts fits into 32 bits, or it is 31; a file past 32 bits is only too long.
+#[test]
+fn sizes_past_32_bits() {
+    const OVER: u64 = 1 << 32;
+    let zeros = Zeros::new(OVER as usize + 64);
+    for (lists, expected) in [
+        (&[&[OVER - 14][..]][..], 32),
+        (&[&[OVER - 13]], 32),
+        (&[&[OVER - 12]], 31),
+        (&[&[OVER - 11]], 31),
+        (&[&[OVER - 1]], 31),
+        (&[&[OVER - 25 - 7, 7]], 32),
+        (&[&[OVER - 24 - 7, 7]], 31),
+        (&[&[1 << 31, OVER / 2 - 25]], 32),
+        (&[&[1 << 31, OVER / 2 - 24]], 31),
+        (&[&[1 << 31, 1 << 31]], 31),
+        (&[&[7, OVER - 13]], 31),
+        // All sizes fit, and with 32 bits that of the file would be a small one.
+        (&[&[1 << 31], &[1 << 31]], 32),
+        (&[&[7], &[OVER - 13]], 32),
+        (&[&[7], &[OVER - 12]], 31),
+        (&[&[OVER - 12], &[7]], 31),
+    ] {
+        assert_eq!(of_lengths(&zeros, lists), expected, "{lists:x?}");
+    }
+}
+
+#[test]
+fn elements_that_are_not_there() {
     for elements in [1, 2, 0x5555_5556, u32::MAX] {
         assert_eq!(number(&[1, 0x0201, elements], &[], ROOM), 31, "{elements} elements are said, and none is there");
+    }
+}
+
+/// Lengths of bodies that are not there, also where with 32 bits they make as many as are.
+#[test]
+fn long_bodies_that_are_not_there() {
+    for length in [u32::MAX, u32::MAX - 11, u32::MAX - 12, 1 << 31] {
+        let alone = [3, 0x10].map(|kind| number(&[1, 0x0201, 1, kind, 0, length], &[1; 20], ROOM));
+        assert_eq!(alone, [31; 2], "{length:#x}");
+        let rest = 4u32.wrapping_sub(length);
+        assert_eq!(number(&[1, 0x0201, 2, 3, 0, length, 3, 0, rest], &[1; 4], ROOM), 31, "{length:#x} and {rest:#x} are 4");
     }
 }
 
@@ -251,28 +335,30 @@ fn the_size_of_a_file() {
         let halves = vec![custom(filling(size) / 2), custom(filling(size) - filling(size) / 2 - 12)];
         assert_eq!(of(&one_list(halves), ROOM), expected, "{size} bytes in two elements");
     }
-    // Elements and lists without a body count too: 5,457 elements of 12 bytes are 65,484.
+    // The most SHA-256 digests that a launch element has place for, as the text of 32 says.
+    assert_eq!(of(&one_list(vec![launching(0x000b, 2046, 2046 * 32)]), ROOM), 0);
+    assert_eq!(of(&one_list(vec![launching(0x000b, 2047, 2047 * 32)]), ROOM), 32);
+}
+
+/// Elements and lists without a body count too: 5,457 elements of 12 bytes are 65,484.
+#[test]
+fn the_size_of_what_is_empty() {
     let most = filling(policy::MOST) / 12 + 1;
-    for (count, expected) in [(most, 0), (most + 1, 32)] {
-        assert_eq!(of(&one_list(vec![custom(0); count]), ROOM), expected, "{count} elements");
-    }
+    let elements = [most, most + 1].map(|count| of(&one_list(vec![custom(0); count]), ROOM));
+    assert_eq!(elements, [0, 32], "{most} elements, and one more");
     let mut lists = one_list(vec![custom(filling(policy::MOST - 8))]);
     lists.push(ListDescription { version: 0x0200, elements: Vec::new() });
     assert_eq!(of(&lists, ROOM), 0);
     lists.push(ListDescription { version: 0x0200, elements: Vec::new() });
     assert_eq!(of(&lists, ROOM), 32);
-    // The most SHA-256 digests that a launch element has place for, as the text of 32 says.
-    assert_eq!(of(&one_list(vec![launching(0x000b, 2046, 2046 * 32)]), ROOM), 0);
-    assert_eq!(of(&one_list(vec![launching(0x000b, 2047, 2047 * 32)]), ROOM), 32);
 }
 
 #[test]
 fn the_room_of_the_buffer() {
     for lists in [several(), one_list(Vec::new()), one_list(vec![custom(filling(policy::MOST))])] {
         let size = plainly_written(&lists).0.len();
-        for (room, expected) in [(0, 33), (1, 33), (size - 1, 33), (size, 0), (size + 1, 0)] {
-            assert_eq!(of(&lists, room), expected, "{size} bytes into {room}");
-        }
+        let found = [0, 1, size - 1, size, size + 1].map(|room| of(&lists, room));
+        assert_eq!(found, [33, 33, 33, 0, 0], "{size} bytes into 0, 1, one less, as many and one more");
     }
 }
 
@@ -303,9 +389,8 @@ fn in_order_31_32_33() {
 #[test]
 fn fields_of_the_record() {
     let (numbers, bodies) = flattened(&several());
-    for value in [0, 1, 0x5a, 0x80, 0xff] {
-        assert_eq!(written_with(&numbers, &bodies, &[value; RECORD_FIELDS], ROOM), 0);
-    }
+    let alike = [0, 1, 0x5a, 0x80, 0xff].map(|value| written_with(&numbers, &bodies, &[value; RECORD_FIELDS], ROOM));
+    assert_eq!(alike, [0; 5]);
     for at in 0..RECORD_FIELDS {
         let mut fields = RecordFields::default().bytes();
         fields[at] ^= 0xff;
@@ -323,28 +408,45 @@ fn plain_number(numbers: &[u32], bodies: &[u8], room: usize) -> u32 {
     }
 }
 
+/// What is left of a description that is read by plain rules.
+struct Plain<'a> {
+    numbers: &'a [u32],
+    bodies: &'a [u8],
+}
+
+impl Plain<'_> {
+    fn next(&mut self) -> Option<u32> {
+        let (first, rest) = self.numbers.split_first()?;
+        self.numbers = rest;
+        Some(*first)
+    }
+
+    /// The size of a list, where it is of the grammar.
+    fn list(&mut self) -> Option<u64> {
+        self.next().filter(|version| [0x0200, 0x0201].contains(version))?;
+        let elements = self.next()?;
+        (0..elements).try_fold(8, |size, _| Some(size + self.element()?))
+    }
+
+    fn element(&mut self) -> Option<u64> {
+        let (kind, _, length) = (self.next()?, self.next()?, self.next()?);
+        let body = self.bodies.get(..length as usize)?;
+        self.bodies = &self.bodies[length as usize..];
+        match kind {
+            3 => {}
+            0x10 => plain_launch(body)?,
+            _ => return None,
+        }
+        Some(12 + u64::from(length))
+    }
+}
+
 /// The size of the file, where the description is of the grammar.
 fn plain_size(numbers: &[u32], bodies: &[u8]) -> Option<u64> {
-    let (mut left, mut bodies) = (numbers.iter().copied(), bodies);
+    let mut left = Plain { numbers, bodies };
     let lists = left.next().filter(|lists| (1..=8).contains(lists))?;
-    let mut size = 36;
-    for _ in 0..lists {
-        left.next().filter(|version| [0x0200, 0x0201].contains(version))?;
-        let elements = left.next()?;
-        size += 8;
-        for _ in 0..elements {
-            let (kind, _, length) = (left.next()?, left.next()?, left.next()?);
-            let body = bodies.get(..length as usize)?;
-            bodies = &bodies[length as usize..];
-            size += 12 + u64::from(length);
-            match kind {
-                3 => {}
-                0x10 => plain_launch(body)?,
-                _ => return None,
-            }
-        }
-    }
-    (left.next().is_none() && bodies.is_empty()).then_some(size)
+    let size = (0..lists).try_fold(36, |size, _| Some(size + left.list()?))?;
+    (left.numbers.is_empty() && left.bodies.is_empty()).then_some(size)
 }
 
 fn plain_launch(body: &[u8]) -> Option<()> {

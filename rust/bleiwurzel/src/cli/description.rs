@@ -21,14 +21,26 @@ pub struct Described {
     pub fields: RecordFields,
     pub lists: Vec<ListDescription>,
     /// Of each list its line, and those of its elements.
-    pub lines: Vec<(usize, Vec<usize>)>,
+    pub lines: Vec<(usize, Vec<ElementLine>)>,
 }
 
-/// The most bytes of all bodies that are kept in memory: far more than a policy file holds, which the library is to say.
-const MOST_BODIES: usize = 1 << 20;
+/// Where an element stands.
+pub struct ElementLine {
+    pub number: usize,
+    /// Whether its body goes on behind what was read of it, for which no policy file has place.
+    pub more: bool,
+}
+
+/// Where the bodies have more bytes than this, the file is far too long already, and of those in files only a byte each is read.
+const ENOUGH_BODIES: usize = 1 << 20;
+/// What some editors put before a text of UTF-8.
+const BYTE_ORDER_MARK: char = '\u{feff}';
+/// The most bytes of a path that Linux takes.
+const LONGEST_PATH: usize = 4095;
 
 /// Reads a text; names of files in it count from this folder. Gives the line that is wrong, and what to do.
 pub fn read(text: &str, folder: &Path, help: &'static str) -> Result<Described, (usize, String)> {
+    let text = text.strip_prefix(BYTE_ORDER_MARK).unwrap_or(text);
     let mut reader = Reader { folder, help, described: Described::default(), given: Vec::new(), bodies: 0 };
     for (index, line) in text.lines().enumerate() {
         reader.line(index + 1, line).map_err(|message| (index + 1, message))?;
@@ -54,8 +66,10 @@ impl<'a> Reader<'a> {
             None => Ok(()),
             Some("record") => self.record(&Words::of(words, RECORD)?),
             Some("list") => self.list(number, &Words::of(words, LIST)?),
-            Some("launch") => self.launch(&Words::of(words, LAUNCH)?).and_then(|element| self.push(number, element)),
-            Some("custom") => self.custom(&Words::of(words, CUSTOM)?).and_then(|element| self.push(number, element)),
+            Some("launch") => self.launch(&Words::of(words, LAUNCH)?).and_then(|element| self.push(number, element, false)),
+            Some("custom") => {
+                self.custom(&Words::of(words, CUSTOM)?).and_then(|(element, more)| self.push(number, element, more))
+            }
             Some(other) => {
                 let known = [RECORD, LIST, LAUNCH].map(|(word, _)| word).join(", ");
                 Err(format!("no line begins with '{}'; lines begin with {known} or {}", shown(other), CUSTOM.0))
@@ -93,18 +107,12 @@ impl<'a> Reader<'a> {
     }
 
     /// Puts an element behind the others of the last list.
-    fn push(&mut self, line: usize, element: ElementDescription) -> Result<(), String> {
+    fn push(&mut self, number: usize, element: ElementDescription, more: bool) -> Result<(), String> {
         self.bodies += element.body.len();
-        if self.bodies > MOST_BODIES {
-            return Err(format!(
-                "up to here elements have over {MOST_BODIES} bytes, and a policy file has at most {}",
-                policy::MOST
-            ));
-        }
         match (self.described.lists.last_mut(), self.described.lines.last_mut()) {
             (Some(list), Some((_, lines))) => {
                 list.elements.push(element);
-                lines.push(line);
+                lines.push(ElementLine { number, more });
                 Ok(())
             }
             _ => Err("an element stands before the first list; write a line 'list' before it".to_string()),
@@ -126,8 +134,9 @@ impl<'a> Reader<'a> {
         Ok(ElementDescription::launch(control, &launch, &digests.concat()))
     }
 
-    fn custom(&self, words: &Words) -> Result<ElementDescription, String> {
-        let (mut control, mut body) = (0, Vec::new());
+    /// A custom element, and whether its body goes on.
+    fn custom(&self, words: &Words) -> Result<(ElementDescription, bool), String> {
+        let (mut control, mut body) = (0, (Vec::new(), false));
         words.set(CONTROL, &mut control, number)?;
         if words.one(BODY).is_none() {
             return Err(
@@ -135,12 +144,14 @@ impl<'a> Reader<'a> {
                     .to_string(),
             );
         }
+        // A byte more than a policy file has is enough for the library to see that the body is too long.
+        let most = if self.bodies > ENOUGH_BODIES { 0 } else { policy::MOST as u64 };
         words.set(BODY, &mut body, |value| match value.strip_prefix('@') {
-            // A byte more than a policy file has is enough for the library to see that the body is too long.
-            Some(name) => self.file(name, policy::MOST as u64, "the body").map(|file| file.bytes),
-            None => hexadecimal(value),
+            Some(name) => self.file(name, most, "the body").map(|file| (file.bytes, file.length.more)),
+            None => hexadecimal(value).map(|bytes| (bytes, false)),
         })?;
-        Ok(ElementDescription::custom(control, body))
+        let (body, more) = body;
+        Ok((ElementDescription::custom(control, body), more))
     }
 
     /// A digest by its digits or, of SHA-256, by the file with the image.
@@ -157,7 +168,8 @@ impl<'a> Reader<'a> {
         let digest = hexadecimal(value).map_err(|message| format!("digest: {message}"))?;
         match policy::algorithm(algorithm) {
             Some((length, _)) if length != digest.len() => Err(format!(
-                "digest: '{value}' has {}; one of {} has {length}, which are {} digits",
+                "digest: '{}' has {}; one of {} has {length}, which are {} digits",
+                shown(value),
                 bytes(digest.len() as u64),
                 algorithm_name(algorithm),
                 2 * length
@@ -188,6 +200,9 @@ impl<'a> Reader<'a> {
     }
 
     fn file(&self, name: &str, limit: u64, what: &str) -> Result<files::Contents, String> {
+        if name.len() > LONGEST_PATH {
+            return Err(format!("'{}' is no name of a file: it has over {LONGEST_PATH} bytes", shown(name)));
+        }
         files::read(self.folder.join(name).as_os_str(), limit, what, self.help).map_err(|misuse| misuse.message)
     }
 }
@@ -196,28 +211,39 @@ impl<'a> Reader<'a> {
 mod tests {
     use super::*;
 
-    /// A text of which bytes are changed, dropped and doubled is read or not, and no text makes the program fail.
-    #[test]
-    fn damaged_descriptions() {
-        let text = "record version=0x0302 counters=1,2 type=list\nlist version=0x0201 # first\nlaunch hash-alg=1 digest=00\n\
-                    launch hash-alg=0x2 control=7\ncustom body=00ff # \u{e9}\n";
-        let mut state = 1u64;
-        let mut next = |below: usize| {
-            state = state.wrapping_mul(6_364_136_223_846_793_005).wrapping_add(1_442_695_040_888_963_407);
-            (state >> 33) as usize % below
-        };
-        let (mut accepted, mut wrong) = (0, 0);
-        for _ in 0..20_000 {
+    /// Numbers that look random and are the same in each run.
+    struct Sequence(u64);
+
+    impl Sequence {
+        fn next(&mut self, below: usize) -> usize {
+            self.0 = self.0.wrapping_mul(6_364_136_223_846_793_005).wrapping_add(1_442_695_040_888_963_407);
+            (self.0 >> 33) as usize % below
+        }
+
+        /// A text of which one to eight bytes are changed or dropped, or which is cut off.
+        fn damaged(&mut self, text: &str) -> String {
             let mut bytes = text.as_bytes().to_vec();
-            for _ in 0..1 + next(8) {
-                let at = next(bytes.len());
-                match next(9) {
-                    0..=4 => bytes[at] = b" =#@,\n0x\xc3"[next(9)],
+            for _ in 0..1 + self.next(8) {
+                let at = self.next(bytes.len());
+                match self.next(9) {
+                    0..=4 => bytes[at] = b" =#@,\n0x\xc3"[self.next(9)],
                     5..=7 if bytes.len() > 1 => drop(bytes.remove(at)),
                     _ => bytes.truncate(at + 1),
                 }
             }
-            match read(&String::from_utf8_lossy(&bytes), Path::new("/nowhere"), "") {
+            String::from_utf8_lossy(&bytes).into_owned()
+        }
+    }
+
+    /// A damaged text is read or not, and none makes the program fail.
+    #[test]
+    fn damaged_descriptions() {
+        let text = "record version=0x0302 counters=1,2 type=list\nlist version=0x0201 # first\nlaunch hash-alg=1 digest=00\n\
+                    launch hash-alg=0x2 control=7\ncustom body=00ff # \u{e9}\n";
+        let mut sequence = Sequence(1);
+        let (mut accepted, mut wrong) = (0, 0);
+        for _ in 0..20_000 {
+            match read(&sequence.damaged(text), Path::new("/nowhere"), "") {
                 Ok(_) => accepted += 1,
                 Err((line, message)) => {
                     wrong += 1;

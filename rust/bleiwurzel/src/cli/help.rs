@@ -153,7 +153,7 @@ Usage:
 
   -o FILE, --output FILE   the policy file that is to be written
   --record FILE            the policy record of 70 bytes that is to be written
-  DESCRIPTION              a text file, or - for standard input
+  DESCRIPTION              a text file of at most 1 MiB, or - for standard input
 
 Both files are written or none, and none that is there already is overwritten.
 One of them may be -, for standard output.
@@ -214,9 +214,9 @@ A description:
 Answers:
   written     both files, and PolicyHash. Exit status 0.
   refused     31 if the description is outside the grammar, 32 if the file would
-              have over 65536 bytes, with the line that is at fault. Exit
-              status 1. The number is the proved library's; no text of this form
-              leads to 33.
+              have over 65536 bytes, with the line that is at fault; on standard
+              error if one of the files is -. Exit status 1. The number is the
+              proved library's; no text of this form leads to 33.
   no answer   a line cannot be read, as in \"policy.txt:7: ..\", or a file cannot
               be read or written. Exit status 2.
 

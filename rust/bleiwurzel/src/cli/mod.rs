@@ -88,6 +88,11 @@ pub fn say(text: &str) -> io::Result<()> {
     }
 }
 
+/// Says on standard error what has no place on standard output. Where it cannot be written, the status is left to say it.
+pub fn say_aside(text: &str) {
+    let _ = io::stderr().write_all(text.as_bytes());
+}
+
 /// The command that these words ask for.
 pub fn command(mut words: Vec<OsString>) -> Result<Said, Misuse> {
     if words.is_empty() {

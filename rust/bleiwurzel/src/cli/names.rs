@@ -18,6 +18,17 @@ pub fn shown_text(text: &str) -> String {
     text.chars().map(character).collect()
 }
 
+/// The most characters of a word that are shown.
+const SHOWN: usize = 80;
+
+/// The same for a word that may be of any length, cut where it is long.
+pub fn shown_front(text: &str) -> String {
+    match text.char_indices().nth(SHOWN) {
+        Some((end, _)) => shown_text(&text[..end]) + "..",
+        None => shown_text(text),
+    }
+}
+
 /// A name as one word for a shell: as it stands where no character of it means something there, in quotes else. What cannot be shown is
 /// written in the form `$'\n'` of bash.
 pub fn quoted(name: &OsStr) -> String {
@@ -53,6 +64,18 @@ mod tests {
             (b"a\xffb", "a\u{fffd}b"),
         ] {
             assert_eq!(shown(OsStr::from_bytes(name)), expected);
+        }
+    }
+
+    #[test]
+    fn shown_fronts() {
+        for (text, expected) in [
+            ("", String::new()),
+            (&"é".repeat(80), "é".repeat(80)),
+            (&"é".repeat(81), "é".repeat(80) + ".."),
+            (&"\n".repeat(1000), "\\n".repeat(80) + ".."),
+        ] {
+            assert_eq!(shown_front(text), expected);
         }
     }
 

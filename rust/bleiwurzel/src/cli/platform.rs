@@ -57,7 +57,7 @@ pub fn text(platform: &Platform) -> String {
 
 /// A decimal number, or a hexadecimal one with 0x, of so many bits.
 pub fn number(text: &str, bits: u32) -> Result<u64, String> {
-    let shown = names::shown_text(text);
+    let shown = names::shown_front(text);
     let wrong = || format!("'{shown}' is no number; write decimal digits, or 0x and hexadecimal digits");
     let (digits, radix) = match text.strip_prefix("0x").or_else(|| text.strip_prefix("0X")) {
         Some(digits) => (digits, 16),

@@ -3,7 +3,7 @@
 
 use super::json::{hex, Json};
 use super::{args, check, description, dump, files, help, misuse, names, policy_write, report, Misuse, Said, YES};
-use bleiwurzel::policy::{self, Body, Digests, Element, List, RecordFields, Signed};
+use bleiwurzel::policy::{self, Body, Digests, Element, List, ListDescription, RecordFields, Signed};
 use bleiwurzel::text::{bytes, digits};
 use bleiwurzel::{finding, RECORD_FIELDS, RECORD_LENGTH};
 use std::ffi::{OsStr, OsString};
@@ -62,15 +62,10 @@ fn described(path: &OsStr, file: &[u8], record: Option<&OsStr>, json: bool) -> R
         )
     })?;
     let mut text = format!("# a policy file of {}; bleiwurzel policy write makes it of this\n", bytes(file.len() as u64));
-    if let Some(path) = record {
-        let record = read_record(path)?;
-        let fields = fields_of(&record);
-        let rewritten = policy::write(&lists, &fields).map(|written| written.record);
-        if rewritten != Ok(record) {
-            text.push_str(&format!("# PolicyHash of {} is not this file's, and is written anew\n", names::shown(path)));
-        }
-        text.push_str(&description::record_text(&RecordFields::of(&fields)));
-    }
+    text.push_str(&match record {
+        Some(path) => described_record(path, &lists)?,
+        None => NO_RECORD.to_string(),
+    });
     text.push_str(&description::lists_text(file));
     if json {
         return Ok(Json::Object(vec![
@@ -81,6 +76,21 @@ fn described(path: &OsStr, file: &[u8], record: Option<&OsStr>, json: bool) -> R
         .line());
     }
     Ok(text)
+}
+
+/// What stands in a description for the record that is not given.
+const NO_RECORD: &str = "# no record: its fields are left out and have their defaults, 0 for sinit-min-version and counters\n";
+
+/// The lines of a record, which need not be that of the lists.
+fn described_record(path: &OsStr, lists: &[ListDescription]) -> Result<String, Misuse> {
+    let record = read_record(path)?;
+    let fields = fields_of(&record);
+    let lines = description::record_text(&RecordFields::of(&fields));
+    let rewritten = policy::write(lists, &fields).map(|written| written.record);
+    if rewritten == Ok(record) {
+        return Ok(lines);
+    }
+    Ok(format!("# PolicyHash of {} is not this file's, and is written anew\n{lines}", names::shown(path)))
 }
 
 /// A policy record of the right length; no field of it is judged.

@@ -1,21 +1,22 @@
 //! `bleiwurzel policy write`: a policy file and its record from a description.
 
 use super::args::{self, Args, OUTPUT, RECORD};
-use super::description::{self, Described};
+use super::description::{self, Described, ElementLine};
 use super::json::Json;
 use super::save::{self, Output};
-use super::{files, help, misuse, names, report, say, Misuse, Said, YES};
-use bleiwurzel::finding::Finding;
+use super::{files, help, misuse, names, report, say, say_aside, Misuse, Said, YES};
+use bleiwurzel::finding::{Finding, Length};
 use bleiwurzel::policy::{self, ElementDescription, Written};
 use bleiwurzel::text::{bytes, digits};
 use bleiwurzel::{Refusal, RECORD_FIELDS};
 use std::ffi::{OsStr, OsString};
+use std::fs;
 use std::os::unix::ffi::OsStrExt;
 use std::path::Path;
 
 const HELP: &str = "bleiwurzel policy write";
 
-/// The most bytes of a description; that of the largest policy file has a quarter of them.
+/// The most bytes of a description. The longest of a policy file has under a third of them: 283,956, of a file of 65,528 bytes.
 const MOST_TEXT: u64 = 1 << 20;
 
 pub fn run(words: Vec<OsString>) -> Result<Said, Misuse> {
@@ -26,10 +27,12 @@ pub fn run(words: Vec<OsString>) -> Result<Said, Misuse> {
     let (file, record) = outputs(&args)?;
     let path = args.one_word("the description")?;
     let described = described(path)?;
+    [(OUTPUT, file), (RECORD, record)].into_iter().try_for_each(|(flag, output)| not_the_description(flag, output, path))?;
     let written = match policy::write(&described.lists, &described.fields.bytes()) {
         Ok(written) => written,
         Err(refusal) => {
-            return Ok(report::refused(refusal, finding(refusal, &described, path).as_ref(), HELP, args.has("--json")));
+            let said = report::refused(refusal, finding(refusal, &described, path).as_ref(), HELP, args.has("--json"));
+            return Ok(if on_standard([file, record]) { aside(said) } else { said });
         }
     };
     let outputs = [
@@ -57,10 +60,32 @@ fn outputs(args: &Args) -> Result<(&OsStr, &OsStr), Misuse> {
     if file == record {
         return misuse(HELP, format!("{OUTPUT} and {RECORD} are both '{}'; give each a name of its own", names::shown(file)));
     }
-    if args.has("--json") && [file, record].contains(&OsStr::new(files::STANDARD)) {
+    if args.has("--json") && on_standard([file, record]) {
         return misuse(HELP, "a file of - is written to standard output, where --json would write too; leave out one of them");
     }
     Ok((file, record))
+}
+
+/// Whether one of the files is to be written to standard output.
+fn on_standard(outputs: [&OsStr; 2]) -> bool {
+    outputs.contains(&OsStr::new(files::STANDARD))
+}
+
+/// Says it on standard error: standard output is for a file, and there is none.
+fn aside(said: Said) -> Said {
+    say_aside(&said.text);
+    Said { text: String::new(), ..said }
+}
+
+/// Fails where a file that is to be written is the description, which nobody is to remove for it.
+fn not_the_description(flag: &str, output: &OsStr, path: &OsStr) -> Result<(), Misuse> {
+    let named = |path: &OsStr| if path == files::STANDARD { None } else { fs::canonicalize(path).ok() };
+    match named(output) {
+        Some(found) if named(path).as_ref() == Some(&found) => {
+            misuse(HELP, format!("'{}' is the description; choose another name for {flag}", names::shown(output)))
+        }
+        _ => Ok(()),
+    }
 }
 
 /// What the text of this file describes.
@@ -140,7 +165,7 @@ fn other_version(i: usize, version: u16, line: usize) -> Option<Fault> {
 }
 
 /// The HashAlg of a launch element that is not of the grammar.
-fn unknown_algorithm((element, line): (&ElementDescription, &usize)) -> Option<Fault> {
+fn unknown_algorithm((element, line): (&ElementDescription, &ElementLine)) -> Option<Fault> {
     let hash_alg = match (element.kind, element.body.get(2..4)) {
         (policy::LAUNCH, Some(field)) => u16::from_le_bytes([field[0], field[1]]),
         _ => return None,
@@ -149,34 +174,46 @@ fn unknown_algorithm((element, line): (&ElementDescription, &usize)) -> Option<F
         return None;
     }
     let (what, expected) = ("the hash algorithm".to_string(), description::algorithm_names());
-    Some(Fault { line: Some(*line), what, expected, found: format!("{hash_alg:#06x}") })
+    Some(Fault { line: Some(line.number), what, expected, found: format!("{hash_alg:#06x}") })
 }
 
 /// The line with which the file grows too long.
 fn too_long(described: &Described) -> Option<Fault> {
-    let mut sizes = Vec::new();
-    for (list, (line, lines)) in described.lists.iter().zip(&described.lines) {
-        sizes.push((*line, policy::LIST_HEAD));
-        sizes.extend(list.elements.iter().zip(lines).map(|(element, line)| (*line, policy::ELEMENT_HEAD + element.body.len())));
-    }
-    let all = policy::FIRST_LIST + sizes.iter().map(|(_, size)| size).sum::<usize>();
-    let mut size = policy::FIRST_LIST;
-    let (line, _) = sizes.iter().find(|(_, more)| {
-        size += more;
-        size > policy::MOST
+    let before = Length { bytes: policy::FIRST_LIST as u64, more: false };
+    let mut up_to = before;
+    let (line, here) = parts(described).find_map(|(line, part)| {
+        up_to = sum(up_to, part);
+        (up_to.bytes > policy::MOST as u64).then_some((line, up_to))
     })?;
+    let all = parts(described).map(|(_, part)| part).fold(before, sum);
     Some(Fault {
-        line: Some(*line),
+        line: Some(line),
         what: "with which the file grows too long".to_string(),
         expected: format!("at most {} bytes in the policy file", policy::MOST),
-        found: format!("{size} bytes up to here, {all} in all"),
+        found: format!("{here} up to here, {all} in all"),
     })
+}
+
+/// The lines of lists and elements, each with what it puts into the file.
+fn parts(described: &Described) -> impl Iterator<Item = (usize, Length)> + '_ {
+    described.lists.iter().zip(&described.lines).flat_map(|(list, (line, lines))| {
+        let head = Length { bytes: policy::LIST_HEAD as u64, more: false };
+        let elements = list.elements.iter().zip(lines).map(|(element, line)| {
+            let bytes = (policy::ELEMENT_HEAD + element.body.len()) as u64;
+            (line.number, Length { bytes, more: line.more })
+        });
+        std::iter::once((*line, head)).chain(elements)
+    })
+}
+
+fn sum(a: Length, b: Length) -> Length {
+    Length { bytes: a.bytes + b.bytes, more: a.more || b.more }
 }
 
 /// What is said of files that were written; nothing where one of them went to standard output.
 fn wrote(outputs: &[Output; 2], written: &Written, json: bool) -> String {
     let [file, record] = outputs;
-    if outputs.iter().any(|output| output.path == files::STANDARD) {
+    if on_standard([file.path, record.path]) {
         return String::new();
     }
     let hash = digits(&written.record[RECORD_FIELDS..]);

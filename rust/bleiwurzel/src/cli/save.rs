@@ -41,7 +41,7 @@ pub fn write_all(outputs: &[Output], help: &'static str) -> Result<(), Misuse> {
     for output in standard {
         to_output(output.bytes).or_else(|error| misuse(help, format!("cannot write to standard output: {error}")))?;
     }
-    name_all(&temporary, &named, help)
+    name_all(&temporary, &named, name, help)
 }
 
 /// What to do where a file cannot be written.
@@ -50,10 +50,14 @@ fn unwritten<T>(output: &Output, error: &io::Error, help: &'static str) -> Resul
     if error.kind() != ErrorKind::AlreadyExists {
         return misuse(help, format!("cannot write '{name}': {error}"));
     }
-    // What is no plain file, as a folder or /dev/null, is not for the caller to remove.
-    let plain = fs::symlink_metadata(output.path).map_or(false, |found| found.is_file());
-    let remove = if plain { "remove it or " } else { "" };
-    misuse(help, format!("'{name}' is there already; {remove}choose another name for {flag}"))
+    let why = match fs::symlink_metadata(output.path) {
+        Ok(found) if found.is_file() => "is there already; remove it or",
+        // What is no plain file, as a folder or /dev/null, is not for the caller to remove.
+        Ok(_) => "is there already;",
+        // The other file has gone again.
+        Err(_) => "is the name of another file that is to be written;",
+    };
+    misuse(help, format!("'{name}' {why} choose another name for {flag}"))
 }
 
 fn to_output(bytes: &[u8]) -> io::Result<()> {
@@ -79,26 +83,36 @@ fn fill(file: &mut File, bytes: &[u8]) -> io::Result<()> {
     file.sync_all()
 }
 
+/// How a whole file is given its name.
+type Naming = fn(&Path, &Path) -> io::Result<()>;
+
 /// Gives whole files their names. Where one cannot have its own, those before it lose theirs.
-fn name_all(files: &[Temporary], outputs: &[&Output], help: &'static str) -> Result<(), Misuse> {
-    for (i, (file, output)) in files.iter().zip(outputs).enumerate() {
-        if let Err(error) = name(&file.0, Path::new(output.path)) {
-            let message = unwritten(output, &error, help);
-            for before in &outputs[..i] {
-                let _ = fs::remove_file(before.path);
-            }
-            return message;
-        }
-    }
-    Ok(())
+fn name_all(files: &[Temporary], outputs: &[&Output], name: Naming, help: &'static str) -> Result<(), Misuse> {
+    let mut all = files.iter().zip(outputs).enumerate();
+    let failed = all.find_map(|(i, (file, output))| name(&file.0, Path::new(output.path)).err().map(|error| (i, error)));
+    let (i, error) = match failed {
+        None => return Ok(()),
+        Some(failed) => failed,
+    };
+    // Before anything is said: a name that one of these has taken is free again.
+    outputs[..i].iter().for_each(|before| drop(fs::remove_file(before.path)));
+    unwritten(outputs[i], &error, help)
 }
 
-/// Gives a whole file its name. A link fails where the name was taken meanwhile; a rename, for file systems without links, does not.
+/// Gives a whole file its name. A link fails where the name was taken meanwhile.
 fn name(temporary: &Path, path: &Path) -> io::Result<()> {
     match fs::hard_link(temporary, path) {
-        Err(error) if error.kind() != ErrorKind::AlreadyExists => fs::rename(temporary, path),
+        Err(error) if error.kind() != ErrorKind::AlreadyExists => renamed(temporary, path),
         linked => linked,
     }
+}
+
+/// The same on file systems without links. A rename overwrites, so the name is looked at before.
+fn renamed(temporary: &Path, path: &Path) -> io::Result<()> {
+    if fs::symlink_metadata(path).is_ok() {
+        return Err(ErrorKind::AlreadyExists.into());
+    }
+    fs::rename(temporary, path)
 }
 
 /// A name in the same folder that no one else uses.
@@ -107,4 +121,73 @@ fn beside(path: &Path) -> PathBuf {
     let count = COUNT.fetch_add(1, Ordering::Relaxed);
     let nanoseconds = SystemTime::now().duration_since(UNIX_EPOCH).map_or(0, |since| since.as_nanos());
     path.with_file_name(format!(".bleiwurzel-{}-{nanoseconds}-{count}.tmp", std::process::id()))
+}
+
+#[cfg(test)]
+mod tests {
+    use super::*;
+
+    /// A folder of its own for each test, which goes in the end.
+    struct Folder(PathBuf);
+
+    impl Folder {
+        fn new() -> Self {
+            let folder = beside(&std::env::temp_dir().join("x"));
+            fs::create_dir(&folder).expect("a folder");
+            Folder(folder)
+        }
+
+        fn path(&self, name: &str) -> PathBuf {
+            self.0.join(name)
+        }
+
+        fn count(&self) -> usize {
+            fs::read_dir(&self.0).expect("the folder").count()
+        }
+
+        /// Has two files named as on a file system without links: what is wrong.
+        fn named(&self, names: [&str; 2]) -> Option<String> {
+            let paths = names.map(|name| self.path(name));
+            let output = |i: usize| Output { flag: [OUTPUT, "--record"][i], path: paths[i].as_os_str(), bytes: &b"ab"[i..=i] };
+            let outputs = [0, 1].map(output);
+            let files = [0, 1].map(|i: usize| to_file(&paths[i], outputs[i].bytes).expect("a whole file"));
+            name_all(&files, &[&outputs[0], &outputs[1]], renamed, "").err().map(|misuse| misuse.message)
+        }
+    }
+
+    impl Drop for Folder {
+        fn drop(&mut self) {
+            let _ = fs::remove_dir_all(&self.0);
+        }
+    }
+
+    #[test]
+    fn two_names_without_links() {
+        let folder = Folder::new();
+        assert_eq!(folder.named(["one", "two"]), None);
+        let read = |name: &str| fs::read(folder.path(name)).expect("a file");
+        assert_eq!((read("one"), read("two"), folder.count()), (b"a".to_vec(), b"b".to_vec(), 2));
+    }
+
+    /// The second file does not take the place of the first; both go, and nobody is told to remove what is gone.
+    #[test]
+    fn one_name_twice_without_links() {
+        let folder = Folder::new();
+        let message = folder.named(["same", "./same"]).expect("no second file of this name");
+        let said = "/./same' is the name of another file that is to be written; choose another name for --record";
+        assert!(message.ends_with(said), "{message}");
+        assert_eq!(folder.count(), 0);
+    }
+
+    /// A name that is taken between the look at it and the naming is kept.
+    #[test]
+    fn a_name_that_is_taken_meanwhile() {
+        let folder = Folder::new();
+        let (whole, taken) = (folder.path("whole"), folder.path("taken"));
+        fs::write(&whole, b"new").and_then(|()| fs::write(&taken, b"kept")).expect("two files");
+        for name in [name, renamed] {
+            assert_eq!(name(&whole, &taken).expect_err("it is there").kind(), ErrorKind::AlreadyExists);
+            assert_eq!(fs::read(&taken).expect("a file"), b"kept");
+        }
+    }
 }

@@ -1,6 +1,6 @@
 //! What stands in a policy record before its PolicyHash.
 
-use super::SHA256;
+use super::{MOST_LISTS, SHA256};
 use crate::RECORD_FIELDS;
 
 /// The fields of a policy record (LCP_POLICY2) without its PolicyHash. The writer judges none of them; rules 23 to 25 and 29 judge some.
@@ -12,7 +12,7 @@ pub struct RecordFields {
     pub policy_type: u8,
     pub sinit_min_version: u8,
     /// What a signed list of this number must reach.
-    pub counters: [u16; 8],
+    pub counters: [u16; MOST_LISTS as usize],
     pub control: u32,
     pub max_sinit_min_version: u8,
     pub reserved: u8,
@@ -30,7 +30,7 @@ impl Default for RecordFields {
             hash_alg: SHA256,
             policy_type: 0,
             sinit_min_version: 0,
-            counters: [0; 8],
+            counters: [0; MOST_LISTS as usize],
             control: 0,
             max_sinit_min_version: 0xff,
             reserved: 0,
@@ -71,7 +71,7 @@ impl RecordFields {
             hash_alg: short(2),
             policy_type: bytes[4],
             sinit_min_version: bytes[5],
-            counters: [0, 1, 2, 3, 4, 5, 6, 7].map(|list| short(super::counter_at(list))),
+            counters: std::array::from_fn(|list| short(super::counter_at(list))),
             control: long(22),
             max_sinit_min_version: bytes[26],
             reserved: bytes[27],

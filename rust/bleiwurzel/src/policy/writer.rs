@@ -43,15 +43,22 @@ pub fn write_into(lists: &[ListDescription], fields: &[u8; RECORD_FIELDS], buffe
 /// no file is of the grammar: it has at most eight lists, and the size of an element, and of a list's elements, has 32 bits and counts more than
 /// the bodies.
 fn flat(lists: &[ListDescription]) -> Option<(Vec<u32>, Vec<u8>)> {
-    let fits = |length: usize| u32::try_from(length).ok();
-    let mut numbers = vec![fits(lists.len())?];
-    let mut bodies = Vec::new();
+    let (mut numbers, mut bodies) = (vec![fits(lists.len())?], Vec::new());
     for list in lists {
         numbers.extend([u32::from(list.version), fits(list.elements.len())?]);
-        for element in &list.elements {
-            numbers.extend([element.kind, element.control, fits(element.body.len())?]);
-            bodies.extend_from_slice(&element.body);
-        }
+        flat_elements(list, &mut numbers, &mut bodies)?;
     }
     Some((numbers, bodies))
+}
+
+fn flat_elements(list: &ListDescription, numbers: &mut Vec<u32>, bodies: &mut Vec<u8>) -> Option<()> {
+    for element in &list.elements {
+        numbers.extend([element.kind, element.control, fits(element.body.len())?]);
+        bodies.extend_from_slice(&element.body);
+    }
+    Some(())
+}
+
+fn fits(length: usize) -> Option<u32> {
+    u32::try_from(length).ok()
 }

@@ -4,8 +4,8 @@ use super::keys::DIGEST;
 use crate::cli::{names, platform};
 use bleiwurzel::policy;
 
-/// The algorithms of digests, in the order in which they are named to people.
-const ALGORITHMS: [u16; 5] = [0x0004, policy::SHA256, 0x000c, 0x000d, 0x0012];
+/// The most lists; a record has a counter for each.
+const LISTS: usize = policy::MOST_LISTS as usize;
 
 /// The words behind the first of a line.
 pub struct Words<'a>(pub Vec<(&'a str, &'a str)>);
@@ -53,13 +53,13 @@ pub fn number<T: TryFrom<u64>>(text: &str) -> Result<T, String> {
     platform::number(text, bits).and_then(|number| T::try_from(number).map_err(|_| wide()))
 }
 
-/// Up to eight numbers; those that are left out are 0.
-pub fn counters(text: &str) -> Result<[u16; 8], String> {
+/// A number for each list; those that are left out are 0.
+pub fn counters(text: &str) -> Result<[u16; LISTS], String> {
     let given = text.split(',').map(number).collect::<Result<Vec<u16>, String>>()?;
-    let mut counters = [0; 8];
+    let mut counters = [0; LISTS];
     match counters.get_mut(..given.len()) {
         Some(front) => front.copy_from_slice(&given),
-        None => return Err(format!("there are {} counters; there is one for each of at most 8 lists", given.len())),
+        None => return Err(format!("there are {} counters; there is one for each of at most {LISTS} lists", given.len())),
     }
     Ok(counters)
 }
@@ -74,8 +74,8 @@ pub fn policy_type(text: &str) -> Result<u8, String> {
 
 /// An algorithm by its name, or by its number, which is not judged here.
 pub fn hash_alg(text: &str) -> Result<u16, String> {
-    match ALGORITHMS.iter().find(|known| algorithm_name(**known) == text) {
-        Some(known) => Ok(*known),
+    match policy::ALGORITHMS.iter().find(|(known, _, _)| algorithm_name(*known) == text) {
+        Some((known, _, _)) => Ok(*known),
         None => number(text).map_err(|message| format!("{message}; or write {}", algorithm_names())),
     }
 }
@@ -90,21 +90,21 @@ pub fn algorithm_name(hash_alg: u16) -> String {
 
 /// All names, for people.
 pub fn algorithm_names() -> String {
-    let names = ALGORITHMS.map(algorithm_name);
-    format!("{} or {}", names[..4].join(", "), names[4])
+    let [others @ .., last] = policy::ALGORITHMS.map(|(hash_alg, _, _)| algorithm_name(hash_alg));
+    format!("{} or {last}", others.join(", "))
 }
 
+/// A word of a description as people read it. A word may be as long as the text, so it is cut.
 pub fn shown(text: &str) -> String {
-    names::shown_text(text)
+    names::shown_front(text)
 }
 
 /// Bytes as hexadecimal digits, two for one.
 pub fn hexadecimal(text: &str) -> Result<Vec<u8>, String> {
     let wrong = || {
-        let cut: String = text.chars().take(80).collect();
         format!(
             "'{}' is no string of bytes; write two hexadecimal digits for each byte, without 0x, or @ and the name of a file",
-            shown(&cut)
+            shown(text)
         )
     };
     if text.len() % 2 != 0 || !text.bytes().all(|digit| digit.is_ascii_hexdigit()) {

@@ -99,7 +99,7 @@ const NUMBERS: &[Number] = &[
     },
     Number {
         value: RECORD_FIELDS as u64,
-        rattle: &["POLICY_HASH", "policy_writer::FIELDS"],
+        rattle: &["decision::POLICY_HASH"],
         macros: &["BLEIWURZEL_RECORD_FIELDS"],
         said: |n| vec![format!("the first {n} bytes of the record"), format!("const uint8_t fields[{n}]")],
     },

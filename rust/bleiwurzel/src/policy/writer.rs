@@ -22,6 +22,16 @@ const OUTSIDE: Refusal = Refusal { number: 31, place: 0 };
 
 /// Writes the policy file of these lists, and its record with these fields, which are not judged, before PolicyHash. 31 where the lists are
 /// outside the grammar, else 32 where the file would have over 65,536 bytes.
+///
+/// ```
+/// use bleiwurzel::policy::{descriptions, write, ElementDescription, ListDescription, RecordFields};
+///
+/// let list = ListDescription { version: 0x0201, elements: vec![ElementDescription::custom(0, b"site 17".to_vec())] };
+/// let written = write(&[list.clone()], &RecordFields::default().bytes())?;
+/// assert_eq!(written.file.len(), 36 + 8 + 12 + 7);
+/// assert_eq!(descriptions(&written.file), Ok(vec![list]));
+/// # Ok::<(), bleiwurzel::Refusal>(())
+/// ```
 pub fn write(lists: &[ListDescription], fields: &[u8; RECORD_FIELDS]) -> Result<Written, Refusal> {
     // With as much room 33 is never answered.
     let mut file = vec![0; MOST];

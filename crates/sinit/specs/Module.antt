@@ -1,4 +1,5 @@
--- Where the fields of a SINIT module stand, and the numbers that they are compared with: the header and its editions, the information table at E, the chipset list.
+-- Where the fields of a SINIT module stand, and the numbers that they are compared with: the header, the information table at E, the chipset list, and the
+-- editions of the header.
 use Prim.Native.Nat.{ℕ, _+_, _*_, _-_, _^_}
 use mathlib.Core.Bool.{cond}
 use mathlib.Core.List.{List, [], _∷_}
@@ -74,23 +75,6 @@ descriptorSize = 8
 abbrev pub secondEnd : ℕ
 secondEnd = 15
 
--- THE EDITIONS OF THE HEADER, a row each: version, HeaderLen, KeySize, and the least length of a module
-
-abbrev pub first : Edition
-first = record { version = 0; «header_len» = 161; «key_size» = 64; «least_length» = 704 }
-
-abbrev pub editions : List Edition
-editions = first ∷ []
-
--- the row of a version, or another where no row has it
-unfoldable pub rowOf : ℕ → Edition → List Edition → Edition
-rowOf v other [] = other
-rowOf v other (row ∷ rows) = cond (eqb (row .version) v) row (rowOf v other rows)
-
--- a module's version picks its edition; a version that no row has is judged by the first, and is 7
-abbrev pub editionOf : List ℕ → Edition
-editionOf m = rowOf (version m) first editions
-
 -- THE INFORMATION TABLE. "The information table is the 44 bytes at E, inside the module: UUID bytes AA 3A C0 7F A7 46 DB 18 2E AC 69 8F 8D 41 7F 5A;
 -- type at 16 (8) = 1; length at 18 (16) ≥ 44; chipset list offset, from the module's first byte, at 20, OsSinitDataVer 24, MinMleHeaderVer 28 (32 each);
 -- AcmVersion at 36 (8)."
@@ -152,3 +136,20 @@ entryDevice m at = numberAt m (at + 6) 2
 
 abbrev pub entryRevision : List ℕ → ℕ → ℕ
 entryRevision m at = numberAt m (at + 8) 2
+
+-- THE EDITIONS OF THE HEADER, a row each: version, HeaderLen, KeySize, and the least length of a module
+
+abbrev pub first : Edition
+first = record { version = 0; «header_len» = 161; «key_size» = 64; «least_length» = 704 }
+
+abbrev pub editions : List Edition
+editions = first ∷ []
+
+-- the row of a version, or another where no row has it
+unfoldable pub rowOf : ℕ → Edition → List Edition → Edition
+rowOf v other [] = other
+rowOf v other (row ∷ rows) = cond (eqb (row .version) v) row (rowOf v other rows)
+
+-- a module's version picks its edition; a version that no row has is judged by the first, and is 7
+abbrev pub editionOf : List ℕ → Edition
+editionOf m = rowOf (version m) first editions

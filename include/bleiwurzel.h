@@ -158,10 +158,10 @@ struct bleiwurzel_answer {
 /*
  * Whether the next launch will succeed.
  *
- * Lent for reading: window, heap, sinit (the SINIT module), record (the policy record of 70 bytes) and stm (the STM image), each with its
- * length in bytes. The nine numbers after them are the platform's, in the order of struct bleiwurzel_platform. The policy file of a LIST policy
- * is read from the window, where OsSinitData says it is. A signed list of it permits like an unsigned one if its signature verifies (see
- * bleiwurzel_rsa_verify) and its counter is at least the one that the record has for the list of its number.
+ * Lent for reading: window, heap, sinit (the SINIT module, of header version 0.0 or 3.0), record (the policy record of 70 bytes) and stm (the
+ * STM image), each with its length in bytes. The nine numbers after them are the platform's, in the order of struct bleiwurzel_platform. The
+ * policy file of a LIST policy is read from the window, where OsSinitData says it is. A signed list of it permits like an unsigned one if its
+ * signature verifies (see bleiwurzel_rsa_verify) and its counter is at least the one that the record has for the list of its number.
  * The STM image is exactly the bytes that SINIT measures: the STM's static image, from the first byte of MSEG on and as long as the STM's header
  * says. All of what is lent is hashed, and no field of it is read. With no STM its length is 0. It is hashed at most once, and only where a list
  * that permits otherwise holds an STM element (type 0x14); under ANY it never is.

@@ -2,3 +2,4 @@
 pub mod Module
 pub mod Rules
 pub mod Meaning
+pub mod Editions

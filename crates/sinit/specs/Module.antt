@@ -1,6 +1,6 @@
 -- Where the fields of a SINIT module stand, and the numbers that they are compared with: the header, the information table at E, the chipset list, and the
 -- editions of the header.
-use Prim.Native.Nat.{ℕ, _+_, _*_, _-_, _^_}
+use Prim.Native.Nat.{ℕ, _+_, _*_, _-_, _^_, _/_}
 use mathlib.Core.Bool.{cond}
 use mathlib.Core.List.{List, [], _∷_}
 use lib.Dec.{eqb}
@@ -137,13 +137,24 @@ entryDevice m at = numberAt m (at + 6) 2
 abbrev pub entryRevision : List ℕ → ℕ → ℕ
 entryRevision m at = numberAt m (at + 8) 2
 
--- THE EDITIONS OF THE HEADER, a row each: version, HeaderLen, KeySize, and the least length of a module
+-- THE EDITIONS OF THE HEADER, a row each: version, HeaderLen, KeySize, and the least length of a module. Request (viii): "modules with header version
+-- 0x00030000, HeaderLen 224 and KeySize 96 (32-bit words)"
+
+-- "the least length is the least multiple of 64 that holds header and information table with no scratch"
+abbrev pub leastLength : ℕ → ℕ
+leastLength words = (4 * words + tableSize + (lengthUnit - 1)) / lengthUnit * lengthUnit
+
+abbrev pub edition : ℕ → ℕ → ℕ → Edition
+edition v words keyWords = record { version = v; «header_len» = words; «key_size» = keyWords; «least_length» = leastLength words }
 
 abbrev pub first : Edition
-first = record { version = 0; «header_len» = 161; «key_size» = 64; «least_length» = 704 }
+first = edition 0 161 64
+
+abbrev pub second : Edition
+second = edition 0x00030000 224 96
 
 abbrev pub editions : List Edition
-editions = first ∷ []
+editions = first ∷ second ∷ []
 
 -- the row of a version, or another where no row has it
 unfoldable pub rowOf : ℕ → Edition → List Edition → Edition

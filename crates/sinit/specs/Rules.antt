@@ -32,6 +32,7 @@ unfoldable pub inside : List ℕ → ℕ → ℕ → Bool
 inside m at n = insideOf (record { base = at; size = n }) (record { base = 0; size = length m })
 
 -- 6. "Base a multiple of 4096; length a multiple of 64, at least 704, at most the ACRAM capacity; base plus length at most 2^32−1."
+-- Request (viii): "the header version alone picks the least length, and an unknown version keeps 704"
 unfoldable pub place : List ℕ → ℕ → ℕ → List Bool
 place m base capacity =
     multiple pageSize base
@@ -42,6 +43,7 @@ place m base capacity =
     ∷ []
 
 -- 7. "Header: type 0 (16) = 2; HeaderLen 4 (32) = 161; version 8 (32) = 0; .. vendor 16 (32) = 0x8086; size 24 (32), times 4 the length; .. KeySize 120 = 64"
+-- Request (viii): "A header that mixes the two editions is 7."
 unfoldable pub header : List ℕ → List Bool
 header m =
     eqb (type m) chipsetModule

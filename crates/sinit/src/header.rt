@@ -31,12 +31,21 @@ pub struct Edition {
     pub least_length: u64,
 }
 
-const EDITIONS: [Edition; 1] = [Edition {
-    version: 0,
-    header_len: 161,
-    key_size: 64,
-    least_length: 704,
-}];
+// Header versions 0.0 and 3.0.
+const EDITIONS: [Edition; 2] = [
+    Edition {
+        version: 0,
+        header_len: 161,
+        key_size: 64,
+        least_length: 704,
+    },
+    Edition {
+        version: 0x0003_0000,
+        header_len: 224,
+        key_size: 96,
+        least_length: 960,
+    },
+];
 
 fn header_len(acm: &[u8]) -> u64
     ensures { λ r. ⌜ (r ≡ headerLen (now (acm .entry))) × (r < 2 ^ 32) ⌝ }

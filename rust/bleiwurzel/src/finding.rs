@@ -4,6 +4,7 @@
 //! does not come to the very number of it. The lists of a policy file, and the place of its first wrong field, are the proved reader's; here it is
 //! only said which field that is.
 
+mod edition;
 mod grammar;
 mod heap;
 mod image;
@@ -14,6 +15,7 @@ mod walk;
 
 use crate::text::{bytes, counted, digits, spaced};
 use crate::{capture, Parts, Platform, Refusal, HIGHEST_END, MOST_HEAP, MOST_PAGES, MOST_STM, MOST_WINDOW, PAGE_SIZE};
+pub use edition::{Edition, EDITIONS};
 pub use length::{Length, Lengths};
 pub use module::{only_length, HEADER_LENGTH};
 use std::ops::Range;

@@ -37,7 +37,7 @@ pub struct Parts<'a> {
     pub window: &'a [u8],
     /// The TXT heap from its first byte on: BiosData, OsMleData, OsSinitData.
     pub heap: &'a [u8],
-    /// The SINIT module.
+    /// The SINIT module, of header version 0.0 or 3.0.
     pub sinit: &'a [u8],
     /// The policy record, 70 bytes.
     pub record: &'a [u8],

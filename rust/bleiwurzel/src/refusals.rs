@@ -233,7 +233,8 @@ pub static TEXTS: [Text; 33] = [
         number: 6,
         name: "module place",
         meaning: "The SINIT module's base or length is not one from which a processor starts it.",
-        rule: "SINIT base mod 4096 = 0; length mod 64 = 0, at least 704, at most the ACRAM capacity; base + length at most 2^32 - 1.",
+        rule: "SINIT base mod 4096 = 0; length mod 64 = 0, at most the ACRAM capacity, and at least 704, or 960 where the header's version (32 \
+            bits at 8) is 0x00030000; base + length at most 2^32 - 1. The version alone picks the least length, whatever else the header says.",
         causes: &[
             "The module file is cut off, or has bytes appended (a download page, a padding).",
             "The ACRAM capacity was given in KiB, or that of another processor.",
@@ -252,19 +253,26 @@ pub static TEXTS: [Text; 33] = [
         number: 7,
         name: "module header",
         meaning: "The SINIT module's header has a wrong type, header length, version, vendor, size or key size.",
-        rule: "In the module: type at 0 (16 bits) = 2; HeaderLen 4 (32) = 161; version 8 (32) = 0; vendor 16 (32) = 0x8086; size 24 (32) \
-            times 4 is the file's length; KeySize 120 (32) = 64.",
+        rule: "In the module: type at 0 (16 bits) = 2; vendor 16 (32) = 0x8086; size 24 (32) times 4 is the file's length; and all of one edition: \
+            version 8 (32) = 0, HeaderLen 4 (32) = 161 and KeySize 120 (32) = 64, or version 0x00030000, HeaderLen 224 and KeySize 96.",
         causes: &[
             "The file is no SINIT module: a BIOS ACM, an archive, a text page.",
-            "It is a module of a newer header edition (version 3.0, HeaderLen 224), which this check does not know.",
+            "It is a module of another header edition than 0.0 and 3.0, which this check does not know.",
+            "The header mixes the two editions: it was made by hand, or the file is damaged.",
             "The file is cut off or padded, so that the size field does not fit it.",
         ],
         technician: &[
             "Look at the vendor field: if it is not 0x8086, this is not the module. Fetch the right file.",
             "If only the size differs, fetch the module again.",
-            "If the version is 0x00030000, the module may be good for the host, but this check cannot judge it.",
+            "If the version is neither 0 nor 0x00030000, the module may be good for the host, but this check cannot judge it.",
+            "If HeaderLen or KeySize is not the one of the module's version, the file is damaged or was changed: compare its checksum with the \
+                vendor's and fetch it again.",
         ],
-        builder: &["Ship the SINIT module for this platform, unchanged; its length is 4 times the field at offset 24."],
+        builder: &[
+            "Ship the SINIT module for this platform, unchanged; its length is 4 times the field at offset 24.",
+            "In a module of your own with header version 3.0 write 0x00030000 and HeaderLen 224, as table 8 of Intel's MLE guide has them. The \
+                guide's text says 0300H and 320; with these the module is refused.",
+        ],
     },
     Text {
         number: 8,

@@ -131,6 +131,7 @@ fn damage_image(name: &str, mut image: Image, times: usize, seed: u64, counts: &
     let mut dice = Dice(seed);
     let mut pages = vec![UNTOUCHED; MOST_PAGES];
     let (platform, aimed_at) = (image.platform, first_pages(&image));
+    let information = 4 * usize::from(image.sinit[4]);
     for turn in 0..times {
         let mut damages = [(); 5].map(|()| Damage::new());
         let kinds = if image.stm.is_empty() { 13 } else { 14 };
@@ -145,7 +146,7 @@ fn damage_image(name: &str, mut image: Image, times: usize, seed: u64, counts: &
                     damages[1].hit(&mut dice, &mut image.heap, at);
                 }
                 7 | 8 => {
-                    let at = if dice.below(2) == 0 { dice.below(ENTRY + 16) } else { INFORMATION + dice.below(44) };
+                    let at = if dice.below(2) == 0 { dice.below(ENTRY + 16) } else { information + dice.below(44) };
                     damages[2].hit(&mut dice, &mut image.sinit, at);
                 }
                 9 | 10 => {
@@ -226,7 +227,9 @@ fn images() {
     damage_image("the most pages", of(Shape { pages: MOST_PAGES, first: 300, ..plain.clone() }), 20, 15, &mut counts);
     damage_image("two pages, LIST with STM elements", with_stm(&plain), 6000, 12, &mut counts);
     damage_image("three pages in two regions", in_two_regions(), 3000, 14, &mut counts);
-    assert_eq!(counts.values().sum::<usize>(), 29_120);
+    let newer = Image { sinit: module_with(HEADER_3_0, 960), ..of(plain) };
+    damage_image("two pages, module header 3.0", newer, 6000, 16, &mut counts);
+    assert_eq!(counts.values().sum::<usize>(), 35_120);
     let met: Vec<u32> = counts.keys().copied().collect();
     let expected: Vec<u32> = (0..=29).filter(|number| *number != 13).collect();
     assert_eq!(met, expected, "every number but 13 is met: {counts:?}");

@@ -502,13 +502,72 @@ fn a_module_without_room_is_no_answer() {
     }
 }
 
+/// What is found of a module whose header has another number at an offset, cut to so many bytes.
+fn of_module(header: Header, at: usize, number: u64, bytes: usize) -> (u32, String, String, String) {
+    let mut image = Image { sinit: module_with(header, 1024), ..image(&Shape::default()) };
+    put(&mut image.sinit, at, number, 4);
+    image.sinit.truncate(bytes);
+    let finding = finding::first(&image.parts(), &image.platform, MOST_PAGES).expect("a refusal");
+    (finding.number, finding.place, finding.expected, finding.found)
+}
+
+/// Which edition the header is judged by, and of which one the number is that was found.
+#[test]
+fn the_edition_of_a_module_is_named() {
+    let (old, new) = (HEADER_0_0, HEADER_3_0);
+    let length = "length of the SINIT module";
+    let cases = [
+        (of_module(new, 8, 0x3_0000, 896), 6, length, "at least 960 bytes, with header version 3.0", "896 bytes"),
+        (of_module(old, 8, 0, 640), 6, length, "at least 704 bytes", "640 bytes"),
+        (of_module(new, 8, 0x300, 640), 6, length, "at least 704 bytes", "640 bytes"),
+        (
+            of_module(new, 8, 0x300, 1024),
+            7,
+            "version in the module's header (module offset 0x8)",
+            "0x00000000 (0.0) or 0x00030000 (3.0)",
+            "0x00000300",
+        ),
+        (
+            of_module(new, 4, 161, 1024),
+            7,
+            "HeaderLen in the module's header (module offset 0x4)",
+            "224 (0xe0), as header version 3.0 has it",
+            "161 (0xa1), as header version 0.0 has it",
+        ),
+        (
+            of_module(new, 4, 320, 1024),
+            7,
+            "HeaderLen in the module's header (module offset 0x4)",
+            "224 (0xe0), as header version 3.0 has it",
+            "320 (0x140)",
+        ),
+        (
+            of_module(old, 120, 96, 1024),
+            7,
+            "KeySize in the module's header (module offset 0x78)",
+            "64 (0x40), as header version 0.0 has it",
+            "96 (0x60), as header version 3.0 has it",
+        ),
+    ];
+    for ((number, place, expected, found), own, at, asked, met) in cases {
+        assert_eq!((number, place.as_str(), expected.as_str(), found.as_str()), (own, at, asked, met));
+    }
+}
+
 /// What of a module is not held does not matter: the number is that of the library over all its bytes, and a rule before the module's comes first.
 #[test]
 fn the_answer_is_that_of_the_whole_module() {
     let folder = folder("the_whole_module");
     let good = image(&Shape::default());
-    let cases: [(&str, fn(&mut Image), u32); 7] = [
+    let cases: [(&str, fn(&mut Image), u32); 10] = [
         ("as it is", |_| (), 0),
+        ("header version 3.0", |image| image.sinit = module_with(HEADER_3_0, 960), 0),
+        (
+            "header version 3.0 and an information table cut off",
+            |image| image.sinit = module_with(HEADER_3_0, 960)[..896].to_vec(),
+            6,
+        ),
+        ("header version 3.0 in a module of 0.0", |image| put(&mut image.sinit, 8, 0x3_0000, 4), 6),
         ("64 bytes more", |image| image.sinit.extend([0xa5; 64]), 7),
         ("1 byte more", |image| image.sinit.push(0xa5), 6),
         ("a smaller size in the header", |image| put(&mut image.sinit, 24, 1, 4), 7),

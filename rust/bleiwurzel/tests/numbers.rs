@@ -6,6 +6,7 @@
 
 mod common;
 
+use bleiwurzel::finding::{Edition, EDITIONS};
 use bleiwurzel::*;
 use common::top;
 use std::collections::BTreeMap;
@@ -233,6 +234,66 @@ fn definitions() -> BTreeMap<String, Vec<(String, u64)>> {
         }
     }
     all
+}
+
+/// The editions of a module's header: in the code each number of a row has a line, in the specification each row.
+#[test]
+fn rust_has_the_editions_of_the_rattle_sources() {
+    let read = |path: &str| std::fs::read_to_string(top().join("crates/sinit").join(path)).expect("a source");
+    let (code, spec) = (read("src/header.rt"), read("specs/Module.antt"));
+    let columns: [(&str, fn(&Edition) -> u64); 4] = [
+        ("version: ", |edition| edition.version),
+        ("header_len: ", |edition| edition.header_len),
+        ("key_size: ", |edition| edition.key_size),
+        ("least_length: ", Edition::least_length),
+    ];
+    for (name, own) in columns {
+        let number = |line: &str| value(line.trim().strip_prefix(name)?.strip_suffix(',')?);
+        let found: Vec<u64> = code.lines().filter_map(number).collect();
+        assert_eq!(found, EDITIONS.iter().map(own).collect::<Vec<u64>>(), "{name}");
+    }
+    let row = |line: &str| Some(line.split_once(" = edition ")?.1.split(' ').filter_map(value).collect());
+    let found: Vec<Vec<u64>> = spec.lines().filter_map(row).collect();
+    let own = EDITIONS.map(|edition| vec![edition.version, edition.header_len, edition.key_size]);
+    assert_eq!(found, own);
+}
+
+/// What the texts say of the editions.
+#[test]
+fn the_texts_say_the_same_editions() {
+    let [old, new] = EDITIONS;
+    let [least, more] = EDITIONS.map(|edition| edition.least_length());
+    let said = [
+        ("include/bleiwurzel.h", format!("the SINIT module, of header version {} or {}", old.name, new.name)),
+        ("rust/bleiwurzel/src/cli/help.rs", format!("the SINIT module, of header version {} or {}", old.name, new.name)),
+        ("README.md", format!("| SINIT module | {least} bytes, with header version {} {more}, to the ACRAM capacity,", new.name)),
+        (
+            "docs/REFUSALS.md",
+            format!("at least {least}, or {more} where the header's version (32 bits at 8) is {:#010x};", new.version),
+        ),
+        (
+            "docs/REFUSALS.md",
+            format!(
+                "version 8 (32) = {}, HeaderLen 4 (32) = {} and KeySize 120 (32) = {}, or",
+                old.version, old.header_len, old.key_size
+            ),
+        ),
+        (
+            "docs/REFUSALS.md",
+            format!("or version {:#010x}, HeaderLen {} and KeySize {}.", new.version, new.header_len, new.key_size),
+        ),
+        ("docs/REFUSALS.md", format!("another header edition than {} and {},", old.name, new.name)),
+        ("docs/REFUSALS.md", format!("neither {} nor {:#010x},", old.version, new.version)),
+        (
+            "docs/REFUSALS.md",
+            format!("header version {} write {:#010x} and HeaderLen {},", new.name, new.version, new.header_len),
+        ),
+        ("docs/DIFFERENCES.md", format!("| {least}, with header version {} {more}: the least multiple of 64", new.name)),
+        ("docs/DIFFERENCES.md", format!("HeaderLen of header version {} | {};", new.name, new.header_len)),
+        ("docs/DIFFERENCES.md", format!("the version of header version {} | {:#010x};", new.name, new.version)),
+        ("docs/DIFFERENCES.md", format!("must be {} words, with header version {} {}", old.key_size, new.name, new.key_size)),
+    ];
+    said.iter().for_each(|(file, said)| hold_said(file, said));
 }
 
 fn header() -> String {

@@ -41,7 +41,7 @@ The parts:
                          page tables, image and, under a LIST policy, the
                          policy file
   --heap FILE            the TXT heap from its first byte on, at most 1 MiB
-  --sinit FILE           the SINIT module
+  --sinit FILE           the SINIT module, of header version 0.0 or 3.0
   --policy-record FILE   the policy record of the TPM, 70 bytes
   --stm FILE             the STM image, at most 16 MiB: exactly the bytes that
                          SINIT measures, which are the STM's static image.

@@ -57,17 +57,23 @@ fn room(length: usize) -> Result<Vec<u8>, TryReserveError> {
 #[cfg(test)]
 mod tests {
     use super::*;
+    use bleiwurzel::finding::{Edition, EDITIONS};
 
-    /// A module of so many bytes with a header that rule 7 lets pass, as far as there is room for it, which states `stated` bytes.
-    fn module(bytes: usize, stated: u32) -> Vec<u8> {
+    /// A module of so many bytes with a header of an edition that rule 7 lets pass, as far as there is room for it, which states `stated` bytes.
+    fn module_of(edition: Edition, bytes: usize, stated: u32) -> Vec<u8> {
         let mut module: Vec<u8> = (0..bytes).map(|i| i as u8 | 1).collect();
-        for (at, number) in [(0, 2), (4, 161), (8, 0), (16, 0x8086), (24, stated / 4), (120, 64)] {
+        let [version, words, key_words] = [edition.version, edition.header_len, edition.key_size].map(|number| number as u32);
+        for (at, number) in [(0, 2), (4, words), (8, version), (16, 0x8086), (24, stated / 4), (120, key_words)] {
             let width = if at == 0 { 2 } else { 4 };
             if let Some(field) = module.get_mut(at..at + width) {
                 field.copy_from_slice(&number.to_le_bytes()[..width]);
             }
         }
         module
+    }
+
+    fn module(bytes: usize, stated: u32) -> Vec<u8> {
+        module_of(EDITIONS[0], bytes, stated)
     }
 
     fn read(module: &[u8], most: u64) -> (Vec<u8>, u64, bool) {
@@ -77,9 +83,11 @@ mod tests {
 
     #[test]
     fn a_module_is_held_as_it_is() {
-        for bytes in [0, 1, 27, 28, 127, 128, 132, 704, 4096] {
-            let module = module(bytes, bytes as u32);
-            assert_eq!(read(&module, 4096), (module, bytes as u64, false), "{bytes}");
+        for edition in EDITIONS {
+            for bytes in [0, 1, 27, 28, 127, 128, 132, 704, 960, 4096] {
+                let module = module_of(edition, bytes, bytes as u32);
+                assert_eq!(read(&module, 4096), (module, bytes as u64, false), "{bytes}, version {}", edition.name);
+            }
         }
     }
 
@@ -92,10 +100,13 @@ mod tests {
 
     #[test]
     fn behind_a_wrong_header_nothing_is_held() {
-        let mut module = module(1024, 1024);
-        module[0] = 3;
-        let (bytes, length, _) = read(&module, 4096);
-        assert_eq!((&bytes[..128], &bytes[128..], length), (&module[..128], &[0; 896][..], 1024));
+        // another type, and the version of the other edition
+        for (at, byte) in [(0, 3), (10, 3)] {
+            let mut module = module(1024, 1024);
+            module[at] = byte;
+            let (bytes, length, _) = read(&module, 4096);
+            assert_eq!((&bytes[..128], &bytes[128..], length), (&module[..128], &[0; 896][..], 1024), "{at}");
+        }
     }
 
     /// The memory that this process holds now, in bytes.

@@ -1,5 +1,6 @@
 //! Rules 6 to 11: the SINIT module's place, header, GDT, information table and chipset list.
 
+use super::edition::{self, Edition, LENGTH_UNIT, VERSION};
 use super::{bytes_of, fail, field, heap, need, noted, number, on_a_page, spaced, Length, Step};
 use crate::text::bytes;
 use crate::{Platform, MOST_CHIPSETS, MOST_MODULE, PAGE_SIZE};
@@ -10,6 +11,8 @@ const UUID: [u8; 16] = [0xaa, 0x3a, 0xc0, 0x7f, 0xa7, 0x46, 0xdb, 0x18, 0x2e, 0x
 pub const HEADER_LENGTH: u64 = 128;
 /// Where in it the module's size stands, in units of 4 bytes.
 const SIZE: u64 = 24;
+/// The bytes of the information table that are judged.
+pub const TABLE_LENGTH: u64 = 44;
 
 /// The one length with which a module that begins like this passes rule 7; 0 where no length does.
 pub fn only_length(module: &[u8]) -> u64 {
@@ -37,7 +40,7 @@ impl Module {
 }
 
 pub fn read(sinit: &[u8], length: &Length, platform: &Platform) -> Step<Module> {
-    place(length, platform)?;
+    place(sinit, length, platform)?;
     header(sinit)?;
     let table = 4 * field(sinit, 4, 4) + 4 * field(sinit, 124, 4);
     entry(sinit, table)?;
@@ -52,7 +55,7 @@ pub fn read(sinit: &[u8], length: &Length, platform: &Platform) -> Step<Module> 
     })
 }
 
-fn place(length: &Length, platform: &Platform) -> Step<()> {
+fn place(sinit: &[u8], length: &Length, platform: &Platform) -> Step<()> {
     let base = platform.sinit_base;
     let of_module = "length of the SINIT module";
     need(base % PAGE_SIZE == 0, 6, "SINIT base of the platform", on_a_page(), format!("{base:#x}"))?;
@@ -65,18 +68,29 @@ fn place(length: &Length, platform: &Platform) -> Step<()> {
     let found = format!("{base:#x} + {:#x} = {end:#x}", length.bytes);
     let most = u128::from(MOST_MODULE);
     need(end <= most, 6, of_end, expected, found).map_err(|finding| if length.more { finding.or_more() } else { finding })?;
-    need(length.bytes >= 704, 6, of_module, "at least 704 bytes", length.to_string())?;
-    let rest = length.bytes % 64;
-    need(rest == 0, 6, of_module, "a multiple of 64", format!("{length}, {rest} too many"))
+    let edition = Edition::of(sinit);
+    let least = edition.least_length();
+    let of_edition = if edition.version == 0 { String::new() } else { format!(", with header version {}", edition.name) };
+    need(length.bytes >= least, 6, of_module, format!("at least {}{of_edition}", bytes(least)), length.to_string())?;
+    let rest = length.bytes % LENGTH_UNIT;
+    need(rest == 0, 6, of_module, format!("a multiple of {LENGTH_UNIT}"), format!("{length}, {rest} too many"))
+}
+
+fn in_header(name: &str, at: u64) -> String {
+    format!("{name} in the module's header (module offset {at:#x})")
 }
 
 fn fixed_fields(sinit: &[u8]) -> Step<()> {
-    for (name, at, width, value) in
-        [("type", 0, 2, 2), ("vendor", 16, 4, 0x8086), ("version", 8, 4, 0), ("HeaderLen", 4, 4, 161), ("KeySize", 120, 4, 64)]
-    {
+    for (name, at, width, value) in [("type", 0, 2, 2), ("vendor", 16, 4, 0x8086)] {
         let found = field(sinit, at, width);
-        let place = format!("{name} in the module's header (module offset {at:#x})");
-        need(found == value, 7, place, format!("{value} ({value:#x})"), format!("{found} ({found:#x})"))?;
+        need(found == value, 7, in_header(name, at), format!("{value} ({value:#x})"), format!("{found} ({found:#x})"))?;
+    }
+    let (edition, version) = (Edition::of(sinit), field(sinit, VERSION, 4));
+    need(version == edition.version, 7, in_header("version", VERSION), edition::versions(), format!("{version:#010x}"))?;
+    let settled: [(_, _, fn(&Edition) -> u64); 2] = [("HeaderLen", 4, |e| e.header_len), ("KeySize", 120, |e| e.key_size)];
+    for (name, at, own) in settled {
+        let (value, found) = (own(&edition), field(sinit, at, 4));
+        need(found == value, 7, in_header(name, at), edition::shown(value, own), edition::shown(found, own))?;
     }
     Ok(())
 }
@@ -87,7 +101,7 @@ fn header(sinit: &[u8]) -> Step<()> {
     need(
         stated == length,
         7,
-        format!("size in the module's header (module offset {SIZE:#x})"),
+        in_header("size", SIZE),
         format!("{}, a fourth of the module's {}", length / 4, bytes(length)),
         format!("{}, which makes {}", stated / 4, bytes(stated)),
     )
@@ -97,31 +111,37 @@ fn entry(sinit: &[u8], table: u64) -> Step<()> {
     let length = sinit.len() as u64;
     let [limit, base, selector, entry] = [40, 44, 48, 52].map(|at| field(sinit, at, 4));
     let e = format!("E = 4·HeaderLen + 4·ScratchSize = {table:#x}");
-    let place = |name: &str, at: u64| format!("{name} in the module's header (module offset {at:#x})");
     let hex = |value: u64| format!("{value:#x}");
-    need(base >= table, 8, place("GDTBasePtr", 44), format!("at least {e}"), hex(base))?;
+    need(base >= table, 8, in_header("GDTBasePtr", 44), format!("at least {e}"), hex(base))?;
     let sum = format!("{base:#x} + {limit:#x} = {:#x}", base + limit);
-    need(base + limit < length, 8, place("GDTBasePtr + GDTLimit", 40), format!("below the module's length {length:#x}"), sum)?;
-    need(limit < 65_536, 8, place("GDTLimit", 40), "below 65536 (0x10000)", hex(limit))?;
-    need(entry >= table, 8, place("EntryPoint", 52), format!("at least {e}"), hex(entry))?;
-    need(entry < length, 8, place("EntryPoint", 52), format!("below the module's length {length:#x}"), hex(entry))?;
+    need(
+        base + limit < length,
+        8,
+        in_header("GDTBasePtr + GDTLimit", 40),
+        format!("below the module's length {length:#x}"),
+        sum,
+    )?;
+    need(limit < 65_536, 8, in_header("GDTLimit", 40), "below 65536 (0x10000)", hex(limit))?;
+    need(entry >= table, 8, in_header("EntryPoint", 52), format!("at least {e}"), hex(entry))?;
+    need(entry < length, 8, in_header("EntryPoint", 52), format!("below the module's length {length:#x}"), hex(entry))?;
     let expected = "a multiple of 8, at least 8";
-    need(selector >= 8 && selector % 8 == 0, 8, place("SegSel", 48), expected, hex(selector))?;
+    need(selector >= 8 && selector % 8 == 0, 8, in_header("SegSel", 48), expected, hex(selector))?;
     let expected = format!("SegSel + 15 at most GDTLimit {limit}");
-    need(selector + 15 <= limit, 8, place("SegSel", 48), expected, format!("{selector} + 15 = {}", selector + 15))
+    need(selector + 15 <= limit, 8, in_header("SegSel", 48), expected, format!("{selector} + 15 = {}", selector + 15))
 }
 
 fn information(sinit: &[u8], table: u64) -> Step<()> {
     let length = sinit.len() as u64;
     let place = |name: &str, at: u64| format!("{name} in the module's information table (module offset {:#x})", table + at);
-    let found = format!("bytes {table:#x} to {:#x} of {length:#x}", table + 43);
-    need(table + 44 <= length, 9, "the module's information table, 44 bytes at E", "inside the module", found)?;
+    let end = table + TABLE_LENGTH;
+    let found = format!("bytes {table:#x} to {:#x} of {length:#x}", end - 1);
+    need(end <= length, 9, format!("the module's information table, {TABLE_LENGTH} bytes at E"), "inside the module", found)?;
     let uuid = bytes_of(sinit, table, 16);
     need(uuid == UUID, 9, place("UUID", 0), spaced(&UUID), spaced(uuid))?;
     let kind = field(sinit, table + 16, 1);
     need(kind == 1, 9, place("type", 16), "1 (SINIT)", kind.to_string())?;
     let stated = field(sinit, table + 18, 2);
-    need(stated >= 44, 9, place("length", 18), "at least 44", stated.to_string())?;
+    need(stated >= TABLE_LENGTH, 9, place("length", 18), format!("at least {TABLE_LENGTH}"), stated.to_string())?;
     let list = field(sinit, table + 20, 4);
     let count = match number(sinit, list, 4) {
         Some(count) => count,

@@ -62,10 +62,21 @@ pub const POLICY_BASE: usize = FIELDS + 64;
 pub const POLICY_SIZE: usize = FIELDS + 72;
 pub const ELEMENTS: usize = FIELDS + 92;
 
-/// Offsets in the module: the chipset list, its first entry, and the information table.
+/// What the two editions of a module's header settle: version, HeaderLen and KeySize.
+#[derive(Clone, Copy)]
+pub struct Header {
+    pub version: u64,
+    pub words: u64,
+    pub key_words: u64,
+}
+
+pub const HEADER_0_0: Header = Header { version: 0, words: 161, key_words: 64 };
+pub const HEADER_3_0: Header = Header { version: 0x0003_0000, words: 224, key_words: 96 };
+
+/// Offsets in the module: the chipset list, its first entry, and the information table behind a header of version 0.0.
 pub const CHIPSETS: usize = 128;
 pub const ENTRY: usize = CHIPSETS + 4;
-pub const INFORMATION: usize = 4 * 161;
+pub const INFORMATION: usize = 4 * HEADER_0_0.words as usize;
 pub const ACM_VERSION: usize = INFORMATION + 36;
 
 impl Image {
@@ -143,16 +154,23 @@ pub fn put_chipset(sinit: &mut [u8], at: usize, flags: u64, device: u64, revisio
     fields.iter().for_each(|(o, number, width)| put(sinit, at + o, *number, *width));
 }
 
-/// A module of so many bytes, without a scratch area, and with one chipset.
-pub fn module(length: usize) -> Vec<u8> {
+/// A module of so many bytes with a header, without a scratch area, and with one chipset.
+pub fn module_with(header: Header, length: usize) -> Vec<u8> {
     let mut sinit = vec![0u8; length];
-    let fields = [(4, 161), (16, 0x8086), (24, length as u64 / 4), (40, 23), (44, 680), (48, 8), (52, 700), (120, 64)];
-    fields.iter().for_each(|(at, number)| put(&mut sinit, *at, *number, 4));
+    let e = 4 * header.words;
+    let edition = [(4, header.words), (8, header.version), (120, header.key_words)];
+    let fields = [(16, 0x8086), (24, length as u64 / 4), (40, 23), (44, e + 36), (48, 8), (52, e + 56)];
+    edition.iter().chain(&fields).for_each(|(at, number)| put(&mut sinit, *at, *number, 4));
     put(&mut sinit, 0, 2, 2);
-    put_information(&mut sinit, INFORMATION);
+    put_information(&mut sinit, e as usize);
     put(&mut sinit, CHIPSETS, 1, 4);
     put_chipset(&mut sinit, ENTRY, 0, 0xb002, 5);
     sinit
+}
+
+/// The same with a header of version 0.0.
+pub fn module(length: usize) -> Vec<u8> {
+    module_with(HEADER_0_0, length)
 }
 
 fn record() -> Vec<u8> {

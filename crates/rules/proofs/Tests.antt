@@ -69,6 +69,11 @@ pub some-map : {A : Type 0} (P Q : A → Type 0) → ((x : A) → P x → Q x) �
 some-map P Q f [] h = h
 some-map P Q f (x ∷ xs) h = ⊎-elim (λ p. inl (f x p)) (λ q. inr (some-map P Q f xs q)) h
 
+-- what follows where one thing is so of every value and another of some
+pub some-every : {A R : Type 0} (P Q : A → Type 0) → ((x : A) → P x → Q x → R) → (xs : List A) → Every P xs → Some Q xs → R
+some-every P Q f [] e s = absurd s
+some-every P Q f (x ∷ xs) e s = ⊎-elim (λ q. f x (e .0) q) (λ q. some-every P Q f xs (e .1) q) s
+
 -- a test that is asked only where another holds
 pub where-holds : (a b : Bool) {P Q : Type 0} → (a ≡ true) ↔ P → (b ≡ true) ↔ Q → ((not a || b) ≡ true) ↔ (P → Q)
 where-holds true b p q = (λ e h. q .0 e, λ h. q .1 (h (p .0 refl)))

@@ -1,5 +1,5 @@
--- The editions of the header: equal ones have equal numbers, which one a version picks, and what their least lengths are.
-use Prim.Native.Nat.{ℕ}
+-- The editions of the header: equal ones have equal numbers, what their least lengths are, which one a version picks, and that rule 7 asks for one of them.
+use Prim.Native.Nat.{ℕ, _+_, _*_}
 use mathlib.Core.Path.{_≡_, refl, ap, sym}
 use mathlib.Core.Logic.{_⊎_, inl, inr, ⊎-elim}
 use mathlib.Core.Bool.{Bool, true, false, cond}
@@ -8,9 +8,10 @@ use native.Mathlib.Omega.{arith}
 use borrow.Author.Tests.{ne-eqb}
 use lib.Dec.{eqb}
 use Rattle.rules.specs.Rules.{Every, Some}
+use Rattle.rules.proofs.Tests.{some-every}
 use Rattle.sinit.specs.declared.header.Edition.{Edition}
-use Rattle.sinit.specs.Module.{version, first, editions, rowOf, editionOf}
-use Rattle.sinit.specs.Editions.{LeastLengths, LeastByVersion, ShortRefused, OfEdition, OneEditionExactly}
+use Rattle.sinit.specs.Module.{lengthUnit, version, tableSize, leastLength, first, second, editions, rowOf, editionOf}
+use Rattle.sinit.specs.Editions.{LeastMultiple, LeastLengths, LeastByVersion, ShortRefused, OfEdition, OneEditionExactly}
 use Rattle.sinit.proofs.Meaning.{refused-exactly}
 
 pub record Alike (a b : Edition) : Type 0 where
@@ -28,10 +29,14 @@ alike e =
       lengths = ap (λ (r : Edition). r .«least_length») e;
     }
 
+-- the least length of any header
+least-multiple : (words : ℕ) → LeastMultiple lengthUnit (4 * words + tableSize) (leastLength words)
+least-multiple words = record { inUnits = omega arith; holds = omega arith; noLess = λ n u h. omega arith }
+
 pub least-lengths : LeastLengths
 least-lengths =
     record {
-      ofHeader = λ n. record { inUnits = omega arith; holds = omega arith; noLess = λ k u h. omega arith };
+      ofEach = (least-multiple (first .«header_len»), (least-multiple (second .«header_len»), tt));
       ofFirst = refl;
       ofSecond = refl;
     }
@@ -53,11 +58,6 @@ Own row = rowOf (row .version) first editions ≡ row
 each-own : Every Own editions
 unfolding rowOf
 each-own = (refl, (refl, tt))
-
--- what follows where one thing is so of every value and another of some
-both : {A R : Type 0} (P Q : A → Type 0) → ((x : A) → P x → Q x → R) → (xs : List A) → Every P xs → Some Q xs → R
-both P Q f [] e s = absurd s
-both P Q f (x ∷ xs) e s = ⊎-elim (λ q. f x (e .0) q) (λ q. both P Q f xs (e .1) q) s
 
 pub least-by-version : LeastByVersion
 unfolding rowOf
@@ -85,7 +85,7 @@ one-edition-exactly m = (
         whole = h .whole;
       },
   λ h.
-      let of : OfEdition m (editionOf m) = both Own (OfEdition m) (λ row e o. rw (o .sameVersion, e) o) editions each-own (h .oneEdition) in
+      let of : OfEdition m (editionOf m) = some-every Own (OfEdition m) (λ row e o. rw (o .sameVersion, e) o) editions each-own (h .oneEdition) in
       record {
         rightType = h .rightType;
         headerWords = of .sameHeaderLen;

@@ -1,15 +1,15 @@
--- What the editions of the header mean: their least lengths, which of them a version picks, and that no header mixes them. The sentences in quotes are those
--- of request (viii). Each statement is proved under the same name in small letters in proofs/Editions.antt.
+-- What the editions of the header mean: their least lengths, which of them a version picks, and that no header that passes rule 7 mixes them. The sentences
+-- in quotes are those of request (viii). Each statement is proved under the same name in small letters in proofs/Editions.antt.
 use Prim.Native.Nat.{ℕ, _+_, _*_, _%_, _≤_, _<_}
 use mathlib.Core.Path.{_≡_}
 use mathlib.Core.Logic.{_↔_}
 use mathlib.Core.List.{List}
 use lib.ListN.{length}
-use Rattle.rules.specs.Rules.{Some}
+use Rattle.rules.specs.Rules.{Every, Some}
 use Rattle.sinit.specs.declared.Chipset.{Chipset}
 use Rattle.sinit.specs.declared.header.Edition.{Edition}
 use Rattle.sinit.specs.declared.ModuleAnswer.the-variants.{Refused}
-use Rattle.sinit.specs.Module.{lengthUnit, tableSize, leastLength, first, second, editions, editionOf}
+use Rattle.sinit.specs.Module.{lengthUnit, tableSize, first, second, editions, editionOf}
 use Rattle.sinit.specs.Module.{type, chipsetModule, headerLen, version, vendor, intel, size, keySize}
 use Rattle.sinit.specs.Rules.{moduleOf}
 use Rattle.sinit.specs.Meaning.{Header}
@@ -20,9 +20,12 @@ pub record LeastMultiple (unit bytes least : ℕ) : Type 0 where
   pub holds : bytes ≤ least
   pub noLess : (n : ℕ) → n % unit ≡ 0 → bytes ≤ n → least ≤ n
 
--- "the least length is the least multiple of 64 that holds header and information table with no scratch": of any header, and so 704 and 960
+-- "the least length is the least multiple of 64 that holds header and information table with no scratch"
+abbrev pub HasLeast : Edition → Type 0
+HasLeast row = LeastMultiple lengthUnit (4 * row .«header_len» + tableSize) (row .«least_length»)
+
 pub record LeastLengths : Type 0 where
-  pub ofHeader : (words : ℕ) → LeastMultiple lengthUnit (4 * words + tableSize) (leastLength words)
+  pub ofEach : Every HasLeast editions
   pub ofFirst : first .«least_length» ≡ 704
   pub ofSecond : second .«least_length» ≡ 960
 

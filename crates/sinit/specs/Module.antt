@@ -161,6 +161,6 @@ unfoldable pub rowOf : ℕ → Edition → List Edition → Edition
 rowOf v other [] = other
 rowOf v other (row ∷ rows) = cond (eqb (row .version) v) row (rowOf v other rows)
 
--- a module's version picks its edition; a version that no row has is judged by the first, and is 7
+-- a module's version picks its edition; one whose version no row has is judged by the first: its least length is 704, and rule 7 refuses it
 abbrev pub editionOf : List ℕ → Edition
 editionOf m = rowOf (version m) first editions

@@ -270,8 +270,8 @@ pub static TEXTS: [Text; 33] = [
         ],
         builder: &[
             "Ship the SINIT module for this platform, unchanged; its length is 4 times the field at offset 24.",
-            "In a module of your own with header version 3.0 write 0x00030000 and HeaderLen 224, as table 8 of Intel's MLE guide has them. The \
-                guide's text says 0300H and 320; with these the module is refused.",
+            "In a module of your own with header version 3.0 write HeaderLen 224, as table 8 of Intel's MLE guide has it, and version 0x00030000, \
+                the major number in bits 31:16. The guide's text also says 320 and 0300H; with these the module is refused.",
         ],
     },
     Text {

@@ -131,7 +131,7 @@ fn damage_image(name: &str, mut image: Image, times: usize, seed: u64, counts: &
     let mut dice = Dice(seed);
     let mut pages = vec![UNTOUCHED; MOST_PAGES];
     let (platform, aimed_at) = (image.platform, first_pages(&image));
-    let information = 4 * usize::from(image.sinit[4]);
+    let information = image.information();
     for turn in 0..times {
         let mut damages = [(); 5].map(|()| Damage::new());
         let kinds = if image.stm.is_empty() { 13 } else { 14 };

@@ -520,6 +520,8 @@ fn the_edition_of_a_module_is_named() {
         (of_module(new, 8, 0x3_0000, 896), 6, length, "at least 960 bytes, with header version 3.0", "896 bytes"),
         (of_module(old, 8, 0, 640), 6, length, "at least 704 bytes", "640 bytes"),
         (of_module(new, 8, 0x300, 640), 6, length, "at least 704 bytes", "640 bytes"),
+        (of_module(new, 8, 0x3_0000, 12), 6, length, "at least 960 bytes, with header version 3.0", "12 bytes"),
+        (of_module(new, 8, 0x3_0000, 11), 6, length, "at least 704 bytes", "11 bytes"),
         (
             of_module(new, 8, 0x300, 1024),
             7,

@@ -262,36 +262,35 @@ fn rust_has_the_editions_of_the_rattle_sources() {
 #[test]
 fn the_texts_say_the_same_editions() {
     let [old, new] = EDITIONS;
-    let [least, more] = EDITIONS.map(|edition| edition.least_length());
+    let least = format!("{} (", old.least_length()) + &format!("{} with header version {})", new.least_length(), new.name);
+    let (module, version) = (format!("the SINIT module, of header version {} or {}", old.name, new.name), new.version);
     let said = [
-        ("include/bleiwurzel.h", format!("the SINIT module, of header version {} or {}", old.name, new.name)),
-        ("rust/bleiwurzel/src/cli/help.rs", format!("the SINIT module, of header version {} or {}", old.name, new.name)),
-        ("README.md", format!("| SINIT module | {least} bytes, with header version {} {more}, to the ACRAM capacity,", new.name)),
-        (
-            "docs/REFUSALS.md",
-            format!("at least {least}, or {more} where the header's version (32 bits at 8) is {:#010x};", new.version),
-        ),
+        ("include/bleiwurzel.h", module.clone()),
+        ("rust/bleiwurzel/src/cli/help.rs", module),
+        ("README.md", format!("| SINIT module | {} to the ACRAM capacity,", least.replace(" (", " bytes ("))),
+        ("docs/DIFFERENCES.md", format!("| {least}, the least multiple of 64 that holds header and information table |")),
+        ("docs/DIFFERENCES.md", format!("HeaderLen of header version {} | {};", new.name, new.header_len)),
+        ("docs/DIFFERENCES.md", format!("the version of header version {} | {version:#010x};", new.name)),
+        ("docs/DIFFERENCES.md", format!("must be {} words ({} with header version {})", old.key_size, new.key_size, new.name)),
         (
             "docs/REFUSALS.md",
             format!(
-                "version 8 (32) = {}, HeaderLen 4 (32) = {} and KeySize 120 (32) = {}, or",
-                old.version, old.header_len, old.key_size
+                "at least {}, or {} where the header's version (32 bits at 8) is {version:#010x};",
+                old.least_length(),
+                new.least_length()
             ),
         ),
         (
             "docs/REFUSALS.md",
-            format!("or version {:#010x}, HeaderLen {} and KeySize {}.", new.version, new.header_len, new.key_size),
+            format!(
+                "version 8 (32) = {}, HeaderLen 4 (32) = {} and KeySize 120 (32) = {}, or version {version:#010x}, HeaderLen {} and KeySize {}.",
+                old.version, old.header_len, old.key_size, new.header_len, new.key_size
+            ),
         ),
         ("docs/REFUSALS.md", format!("another header edition than {} and {},", old.name, new.name)),
-        ("docs/REFUSALS.md", format!("neither {} nor {:#010x},", old.version, new.version)),
-        (
-            "docs/REFUSALS.md",
-            format!("header version {} write {:#010x} and HeaderLen {},", new.name, new.version, new.header_len),
-        ),
-        ("docs/DIFFERENCES.md", format!("| {least}, with header version {} {more}: the least multiple of 64", new.name)),
-        ("docs/DIFFERENCES.md", format!("HeaderLen of header version {} | {};", new.name, new.header_len)),
-        ("docs/DIFFERENCES.md", format!("the version of header version {} | {:#010x};", new.name, new.version)),
-        ("docs/DIFFERENCES.md", format!("must be {} words, with header version {} {}", old.key_size, new.name, new.key_size)),
+        ("docs/REFUSALS.md", format!("neither {} nor {version:#010x},", old.version)),
+        ("docs/REFUSALS.md", format!("with header version {} write HeaderLen {},", new.name, new.header_len)),
+        ("docs/REFUSALS.md", format!("and version {version:#010x}, the major number in bits 31:16.")),
     ];
     said.iter().for_each(|(file, said)| hold_said(file, said));
 }

@@ -93,9 +93,11 @@ mod tests {
 
     #[test]
     fn what_follows_the_only_length_is_counted() {
-        let module = module(1024, 704);
-        let (bytes, length, more) = read(&module, 4096);
-        assert_eq!((&bytes[..704], &bytes[704..], length, more), (&module[..704], &[0; 320][..], 1024, false));
+        for edition in EDITIONS {
+            let module = module_of(edition, 1024, 960);
+            let (bytes, length, more) = read(&module, 4096);
+            assert_eq!((&bytes[..960], &bytes[960..], length, more), (&module[..960], &[0; 64][..], 1024, false));
+        }
     }
 
     #[test]

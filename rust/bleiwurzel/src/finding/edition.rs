@@ -37,7 +37,7 @@ impl Edition {
     }
 }
 
-/// A number that an edition settles, and where it is that of an edition, of which.
+/// A number as a finding shows it: with the edition whose own it is, if there is one.
 pub fn shown(number: u64, own: fn(&Edition) -> u64) -> String {
     let shown = format!("{number} ({number:#x})");
     match EDITIONS.iter().find(|edition| own(edition) == number) {

@@ -1,6 +1,6 @@
 //! Rules 6 to 11: the SINIT module's place, header, GDT, information table and chipset list.
 
-use super::edition::{self, Edition, LENGTH_UNIT, VERSION};
+use super::edition::{self, Edition, EDITIONS, LENGTH_UNIT, VERSION};
 use super::{bytes_of, fail, field, heap, need, noted, number, on_a_page, spaced, Length, Step};
 use crate::text::bytes;
 use crate::{Platform, MOST_CHIPSETS, MOST_MODULE, PAGE_SIZE};
@@ -11,7 +11,7 @@ const UUID: [u8; 16] = [0xaa, 0x3a, 0xc0, 0x7f, 0xa7, 0x46, 0xdb, 0x18, 0x2e, 0x
 pub const HEADER_LENGTH: u64 = 128;
 /// Where in it the module's size stands, in units of 4 bytes.
 const SIZE: u64 = 24;
-/// The bytes of the information table that are judged.
+/// The bytes of the information table that must be inside the module.
 pub const TABLE_LENGTH: u64 = 44;
 
 /// The one length with which a module that begins like this passes rule 7; 0 where no length does.
@@ -69,9 +69,10 @@ fn place(sinit: &[u8], length: &Length, platform: &Platform) -> Step<()> {
     let most = u128::from(MOST_MODULE);
     need(end <= most, 6, of_end, expected, found).map_err(|finding| if length.more { finding.or_more() } else { finding })?;
     let edition = Edition::of(sinit);
+    // The first edition stands for versions that are not known, too, so it is not named.
+    let named = if edition == EDITIONS[0] { String::new() } else { format!(", with header version {}", edition.name) };
     let least = edition.least_length();
-    let of_edition = if edition.version == 0 { String::new() } else { format!(", with header version {}", edition.name) };
-    need(length.bytes >= least, 6, of_module, format!("at least {}{of_edition}", bytes(least)), length.to_string())?;
+    need(length.bytes >= least, 6, of_module, format!("at least {}{named}", bytes(least)), length.to_string())?;
     let rest = length.bytes % LENGTH_UNIT;
     need(rest == 0, 6, of_module, format!("a multiple of {LENGTH_UNIT}"), format!("{length}, {rest} too many"))
 }

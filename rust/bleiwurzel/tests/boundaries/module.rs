@@ -20,9 +20,9 @@ fn hold_both(cases: &[Case]) {
     hold(&newer(), cases);
 }
 
-/// E without a scratch area, where the information table stands.
+/// E without a scratch area.
 fn e(i: &Image) -> usize {
-    4 * usize::from(i.sinit[4])
+    i.information()
 }
 
 fn header(i: &Image) -> Header {
@@ -74,7 +74,7 @@ fn place() {
     );
 }
 
-/// The first bytes of a module with a header of these words, and another version in it.
+/// The first bytes of a module with this header, and a version written into it.
 fn cut(i: &mut Image, header: Header, version: u64, bytes: usize) {
     i.sinit = module_with(header, 1024);
     put(&mut i.sinit, 8, version, 4);
@@ -109,9 +109,8 @@ fn least_length() {
             ("version 0x00030001, 704 bytes", |i| cut(i, NEW, 0x3_0001, 704), 7),
             ("version 0x00030001, 640 bytes", |i| cut(i, NEW, 0x3_0001, 640), 6),
             ("version 0x01030000, 704 bytes", |i| cut(i, NEW, 0x103_0000, 704), 7),
-            ("version 3.0, 12 bytes", |i| cut(i, NEW, 0x3_0000, 12), 6),
-            ("version 3.0 without its last byte", |i| cut(i, NEW, 0x3_0000, 11), 6),
-            ("a 960th byte too few", |i| cut(i, NEW, 0x3_0000, 959), 6),
+            ("version 0x0002ffff, 704 bytes", |i| cut(i, NEW, 0x2_ffff, 704), 7),
+            ("version 3.0, 992 bytes, which is no multiple of 64", |i| cut(i, NEW, 0x3_0000, 992), 6),
         ],
     );
 }
@@ -362,6 +361,37 @@ fn chipset_entry() {
         ("chipset vendor 0x8085", |i| i.platform.vendor = 0x8085, 10),
         ("chipset device 0xb001", |i| i.platform.device = 0xb001, 10),
         ("chipset revision 6", |i| i.platform.revision = 6, 10),
+    ]);
+}
+
+/// What rules 22 and 25 read of the information table.
+#[test]
+fn values() {
+    /// MinMleHeaderVer and AcmVersion.
+    fn table(i: &mut Image, least_header: u64, own: u8) {
+        let table = e(i);
+        field(i, table + 28, least_header);
+        byte(i, table + 36, own);
+    }
+    hold_both(&[
+        ("MinMleHeaderVer that of the image's header", |i| table(i, 0x2_0003, 5), 0),
+        ("MinMleHeaderVer 1 above it", |i| table(i, 0x2_0004, 5), 22),
+        (
+            "AcmVersion 6, SINITMinVersion 6",
+            |i| {
+                table(i, 0, 6);
+                i.record[5] = 6;
+            },
+            0,
+        ),
+        (
+            "AcmVersion 5, SINITMinVersion 6",
+            |i| {
+                table(i, 0, 5);
+                i.record[5] = 6;
+            },
+            25,
+        ),
     ]);
 }
 

@@ -54,6 +54,7 @@ pub fn printed(answer: &Answer, pages: &[u64]) -> String {
 pub type Case = (&'static str, fn(&mut Image), u32);
 
 /// Holds the check to a table: says of all cases at once which are not as expected.
+#[track_caller]
 pub fn hold(good: &Image, cases: &[Case]) {
     let of = |(name, change, number): &Case| {
         let mut image = good.clone();

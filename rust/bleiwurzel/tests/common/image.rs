@@ -84,6 +84,11 @@ impl Image {
         Parts { window: &self.window, heap: &self.heap, sinit: &self.sinit, record: &self.record, stm: &self.stm }
     }
 
+    /// Where the module's information table stands, without a scratch area; HeaderLen is below 256.
+    pub fn information(&self) -> usize {
+        4 * usize::from(self.sinit[4])
+    }
+
     /// The physical address of a page of the window.
     pub fn address(&self, page: usize) -> u64 {
         self.platform.window_base + (page * PAGE) as u64

@@ -262,7 +262,7 @@ fn rust_has_the_editions_of_the_rattle_sources() {
 #[test]
 fn the_texts_say_the_same_editions() {
     let [old, new] = EDITIONS;
-    let least = format!("{} (", old.least_length()) + &format!("{} with header version {})", new.least_length(), new.name);
+    let least = format!("{} ({} with header version {})", old.least_length(), new.least_length(), new.name);
     let (module, version) = (format!("the SINIT module, of header version {} or {}", old.name, new.name), new.version);
     let said = [
         ("include/bleiwurzel.h", module.clone()),

@@ -16,7 +16,7 @@ use Rattle.launch.specs.Rules.{Input, inputOf}
 use Rattle.launch.specs.Answer.{answerOf, placesOf}
 use Rattle.launch.proofs.Demand1.{demand1}
 use Rattle.capture.specs.declared.Offsets.{Offsets}
-use Rattle.capture.specs.Capture.{platformOf, windowAt, offsetsOf, captureTests, CaptureExactly, notCapture, inputIn, captureAnswer, capturePlaces, NumberMost}
+use Rattle.capture.specs.Capture.{platformOf, revisionEnd, offsetsFrom, captureTests, CaptureExactly, notCapture, inputIn, captureAnswer, capturePlaces, NumberMost}
 
 pub capture-exactly : CaptureExactly
 unfolding captureTests
@@ -24,17 +24,17 @@ capture-exactly s = (
   λ e.
       let t = each _ .0 e in
       record {
-        least = leb-true _ _ (t .0);
-        most = leb-true _ _ (t .1 .0);
-        marked = marked-at _ _ _ .0 (t .1 .1 .0) .1;
-        known = eqb-true _ _ (t .1 .1 .1 .0);
+        known = eqb-true _ _ (t .0);
+        least = leb-true _ _ (t .1 .0);
+        most = leb-true _ _ (t .1 .1 .0);
+        marked = marked-at _ _ _ .0 (t .1 .1 .1 .0) .1;
         whole = eqb-true _ _ (t .1 .1 .1 .1 .0);
       },
   λ h. each _ .1
-      (le-leb _ _ (h .least)
+      (eq-eqb _ _ (h .known)
+      & le-leb _ _ (h .least)
       & le-leb _ _ (h .most)
       & marked-at _ _ _ .1 (omega (arith, h .least), h .marked)
-      & eq-eqb _ _ (h .known)
       & eq-eqb _ _ (h .whole)
       & tt),
 )
@@ -44,7 +44,7 @@ module _ (s : List ℕ) (o : Offsets) (p : Platform) (n : ℕ) where
   abbrev lent : Input
   lent =
       inputOf
-      (take (o .heap - windowAt) (drop windowAt s))
+      (take (o .heap - o .window) (drop (o .window) s))
       (take (o .sinit - o .heap) (drop (o .heap) s))
       (take (o .«policy_record» - o .sinit) (drop (o .sinit) s))
       (take (o .end - o .«policy_record») (drop (o .«policy_record») s))
@@ -55,7 +55,7 @@ module _ (s : List ℕ) (o : Offsets) (p : Platform) (n : ℕ) where
   after : (a b : ℕ) → a + b - a ≡ b
   after a b = omega arith
 
-  parts : o ≡ offsetsOf s → p ≡ platformOf s → lent ≡ inputIn s n
+  parts : o ≡ offsetsFrom s revisionEnd → p ≡ platformOf s → lent ≡ inputIn s n
   parts e f = rw (e, f) (simp after)
 
 -- the answer and the page list of a string that is no capture, and of one that is
@@ -64,7 +64,7 @@ module _ (s : List ℕ) (t : Bool) (is-test : t ≡ all (captureTests s)) where
   unfolding captureAnswer capturePlaces
   no-capture h n places = rw (← is-test, not-true t h) (refl, refl)
 
-  pub a-capture : not t ≡ false → (o : Offsets) (p : Platform) → o ≡ offsetsOf s → p ≡ platformOf s → (places : List ℕ) (r : Answer) (later : List ℕ)
+  pub a-capture : not t ≡ false → (o : Offsets) (p : Platform) → o ≡ offsetsFrom s revisionEnd → p ≡ platformOf s → (places : List ℕ) (r : Answer) (later : List ℕ)
       → r ≡ answerOf (lent s o p (length places)) → later ≡ placesOf (lent s o p (length places)) places
       → (r ≡ captureAnswer s (length places)) × (later ≡ capturePlaces s places)
   unfolding captureAnswer capturePlaces
@@ -72,7 +72,7 @@ module _ (s : List ℕ) (t : Bool) (is-test : t ≡ all (captureTests s)) where
       let l = parts s o p (length places) e f in
       rw (← is-test, not-false t h) (x ∙ ap answerOf l, y ∙ ap (λ (i : Input). placesOf i places) l)
 
-  pub whole : not t ≡ false → (o : Offsets) → o ≡ offsetsOf s → o .end ≡ length s
+  pub whole : not t ≡ false → (o : Offsets) → o ≡ offsetsFrom s revisionEnd → o .end ≡ length s
   whole h o e = ap (λ (x : Offsets). x .end) e ∙ capture-exactly s .0 (sym is-test ∙ not-false t h) .whole
 
 pub number-most : NumberMost

@@ -40,74 +40,88 @@ platformOf s =
       revision = numberAt s 57 2;
     }
 
--- "four 32-bit lengths (window, heap, module, record)"
-abbrev pub windowLength : List ℕ → ℕ
-windowLength s = numberAt s 59 4
+-- THE PARTS
 
-abbrev pub heapLength : List ℕ → ℕ
-heapLength s = numberAt s 63 4
+-- "four 32-bit lengths (window, heap, module, record)" stand at an offset, and behind them "the four parts": where each begins
+module _ (s : List ℕ) (at : ℕ) where
+  abbrev pub windowLength : ℕ
+  windowLength = numberAt s at 4
 
-abbrev pub sinitLength : List ℕ → ℕ
-sinitLength s = numberAt s 67 4
+  abbrev pub heapLength : ℕ
+  heapLength = numberAt s (at + 4) 4
 
-abbrev pub recordLength : List ℕ → ℕ
-recordLength s = numberAt s 71 4
+  abbrev pub sinitLength : ℕ
+  sinitLength = numberAt s (at + 8) 4
 
--- "the four parts; 75 bytes before the parts": where each begins
-abbrev pub windowAt : ℕ
-windowAt = 75
+  abbrev pub recordLength : ℕ
+  recordLength = numberAt s (at + 12) 4
 
-abbrev pub heapAt : List ℕ → ℕ
-heapAt s = windowAt + windowLength s
+  abbrev pub windowAt : ℕ
+  windowAt = at + 16
 
-abbrev pub sinitAt : List ℕ → ℕ
-sinitAt s = heapAt s + heapLength s
+  abbrev pub heapAt : ℕ
+  heapAt = windowAt + windowLength
 
-abbrev pub recordAt : List ℕ → ℕ
-recordAt s = sinitAt s + sinitLength s
+  abbrev pub sinitAt : ℕ
+  sinitAt = heapAt + heapLength
 
-abbrev pub endAt : List ℕ → ℕ
-endAt s = recordAt s + recordLength s
+  abbrev pub recordAt : ℕ
+  recordAt = sinitAt + sinitLength
 
-abbrev pub offsetsOf : List ℕ → Offsets
-offsetsOf s = record { heap = heapAt s; sinit = sinitAt s; «policy_record» = recordAt s; end = endAt s }
+  abbrev pub endAt : ℕ
+  endAt = recordAt + recordLength
+
+  abbrev pub offsetsFrom : Offsets
+  offsetsFrom = record { window = windowAt; heap = heapAt; sinit = sinitAt; «policy_record» = recordAt; end = endAt }
+
+  -- what is handed over, for a page list of so many places; "the capture program lends an empty" STM image
+  abbrev pub inputFrom : ℕ → Input
+  inputFrom places =
+      record {
+        window = take windowLength (drop windowAt s);
+        heap = take heapLength (drop heapAt s);
+        sinit = take sinitLength (drop sinitAt s);
+        policyRecord = take recordLength (drop recordAt s);
+        stm = [];
+        platform = platformOf s;
+        places = places;
+      }
+
+-- the lengths follow the chipset revision
+abbrev pub revisionEnd : ℕ
+revisionEnd = 59
+
+-- CAPTURES
 
 -- "at most 65,536 in all, nothing after"
 abbrev pub largest : ℕ
 largest = 65536
 
-unfoldable pub captureTests : List ℕ → List Bool
-captureTests s =
-    leb windowAt (length s)
+-- what a capture must have besides its version, with the four lengths at an offset
+abbrev pub testsFrom : List ℕ → ℕ → List Bool
+testsFrom s at =
+    leb (windowAt s at) (length s)
     ∷ leb (length s) largest
     ∷ markedAt s 0 mark
-    ∷ eqb (version s) knownVersion
-    ∷ eqb (endAt s) (length s)
+    ∷ eqb (endAt s at) (length s)
     ∷ []
+
+unfoldable pub captureTests : List ℕ → List Bool
+captureTests s = eqb (version s) knownVersion ∷ testsFrom s revisionEnd
 
 -- the same as plain propositions
 pub record IsCapture (s : List ℕ) : Type 0 where
-  pub least : windowAt ≤ length s
+  pub known : version s ≡ knownVersion
+  pub least : windowAt s revisionEnd ≤ length s
   pub most : length s ≤ largest
   pub marked : take (length mark) s ≡ mark
-  pub known : version s ≡ knownVersion
-  pub whole : endAt s ≡ length s
+  pub whole : endAt s revisionEnd ≡ length s
 
 abbrev pub CaptureExactly : Type 0
 CaptureExactly = (s : List ℕ) → (all (captureTests s) ≡ true) ↔ IsCapture s
 
--- what is handed over, for a page list of so many places; "the capture program lends an empty" STM image
 abbrev pub inputIn : List ℕ → ℕ → Input
-inputIn s places =
-    record {
-      window = take (windowLength s) (drop windowAt s);
-      heap = take (heapLength s) (drop (heapAt s) s);
-      sinit = take (sinitLength s) (drop (sinitAt s) s);
-      policyRecord = take (recordLength s) (drop (recordAt s) s);
-      stm = [];
-      platform = platformOf s;
-      places = places;
-    }
+inputIn s places = inputFrom s revisionEnd places
 
 -- "Otherwise 30."
 abbrev pub notCapture : ℕ

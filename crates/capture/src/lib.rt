@@ -7,7 +7,8 @@ ghost use Prim.Native.Nat.{_<_, _≤_, _^_};
 ghost use lib.ListN.{length};
 ghost use Rattle.rules.specs.Rules.{all};
 ghost use Rattle.field.specs.Field.{numberAt};
-ghost use Rattle.capture.specs.Capture.{platformOf, offsetsOf, captureTests, captureAnswer, capturePlaces};
+ghost use Rattle.capture.specs.Capture.{platformOf, revisionEnd, offsetsFrom, captureTests, captureAnswer, capturePlaces};
+ghost use Rattle.capture.specs.Inner.{Rising};
 
 // The number of a string that is no capture.
 const NOT_CAPTURE: u32 = 30;
@@ -19,17 +20,8 @@ const LARGEST: usize = 65536;
 // What a program lends for the input: a byte more than a capture may have, so that a longer input is told from one.
 pub const INPUT: usize = LARGEST + 1;
 
-// The offset of the window.
-const WINDOW: usize = 75;
-
-// The offsets of the four lengths.
-const WINDOW_LENGTH: usize = 59;
-
-const HEAP_LENGTH: usize = 63;
-
-const SINIT_LENGTH: usize = 67;
-
-const RECORD_LENGTH: usize = 71;
+// Where the chipset revision ends: the four lengths follow.
+const REVISION_END: usize = 59;
 
 fn number16(s: &[u8], at: usize) -> u16
     ensures { λ r. ⌜ r ≡ numberAt (now (s .entry)) at 2 ⌝ }
@@ -59,8 +51,9 @@ fn platform(s: &[u8]) -> Platform
     }
 }
 
-// Where the parts after the window begin, and where the last ends.
+// Where the parts begin, and where the last ends.
 pub struct Offsets {
+    pub window: usize,
     pub heap: usize,
     pub sinit: usize,
     pub policy_record: usize,
@@ -68,13 +61,16 @@ pub struct Offsets {
 }
 
 fn offsets_in(s: &[u8]) -> Offsets
-    ensures { λ r. ⌜ (r ≡ offsetsOf (now (s .entry))) × (75 ≤ r .heap) × (r .heap ≤ r .sinit) × (r .sinit ≤ r .«policy_record») × (r .«policy_record» ≤ r .end) ⌝ }
+    ensures { λ r. ⌜ (r ≡ offsetsFrom (now (s .entry)) revisionEnd) × Rising r ⌝ }
 {
-    let heap = WINDOW + length(s, WINDOW_LENGTH);
-    let sinit = heap + length(s, HEAP_LENGTH);
-    let policy_record = sinit + length(s, SINIT_LENGTH);
-    let end = policy_record + length(s, RECORD_LENGTH);
+    let at = REVISION_END;
+    let window = at + 16;
+    let heap = window + length(s, at);
+    let sinit = heap + length(s, at + 4);
+    let policy_record = sinit + length(s, at + 8);
+    let end = policy_record + length(s, at + 12);
     Offsets {
+        window,
         heap,
         sinit,
         policy_record,
@@ -86,7 +82,7 @@ fn offsets_in(s: &[u8]) -> Offsets
 fn holds(s: &[u8]) -> bool
     ensures { λ r. ⌜ r ≡ all (captureTests (now (s .entry))) ⌝ }
 {
-    if s.len() < WINDOW {
+    if number_or_zero(s, 3, 2) != VERSION {
         return false;
     }
     if LARGEST < s.len() {
@@ -95,10 +91,11 @@ fn holds(s: &[u8]) -> bool
     if !field::marked(s, 0, b"LPC") {
         return false;
     }
-    if number_or_zero(s, 3, 2) != VERSION {
+    let at = offsets_in(s);
+    if s.len() < at.window {
         return false;
     }
-    offsets_in(s).end == s.len()
+    at.end == s.len()
 }
 
 // The answer for a capture, and on permission the addresses of the pages in the first places of the page list.
@@ -110,12 +107,13 @@ pub fn check(s: &[u8], pages: &mut [u64]) -> Answer
         return answer::refused(NOT_CAPTURE, 0);
     }
     let at = offsets_in(s);
+    let window = at.window;
     let heap = at.heap;
     let sinit = at.sinit;
     let policy_record = at.policy_record;
     let end = at.end;
     launch::check(
-        &s[WINDOW..heap],
+        &s[window..heap],
         &s[heap..sinit],
         &s[sinit..policy_record],
         &s[policy_record..end],

@@ -163,11 +163,12 @@ const NUMBERS: &[Number] = &[
         macros: &["BLEIWURZEL_MOST_CAPTURE"],
         said: |n| vec![format!("it has over {n} bytes"), format!("at most {n} in all")],
     },
+    Number { value: capture::HEAD as u64, rattle: &[], macros: &[], said: |n| vec![format!("{n} bytes before the parts")] },
     Number {
-        value: capture::HEAD as u64,
-        rattle: &["capture::WINDOW"],
+        value: capture::PARTS[0].1 as u64,
+        rattle: &["capture::REVISION_END", "capture::revisionEnd"],
         macros: &[],
-        said: |n| vec![format!("{n} bytes before the parts")],
+        said: nothing,
     },
 ];
 

@@ -1,5 +1,6 @@
-/* Builds a small image in memory (an ANY policy, two pages), asks whether its launch will succeed, then breaks one thing and asks again; then the
- * same under a LIST policy whose file is not of the grammar, where the answer says which byte is wrong. */
+/* Builds a small image in memory (an ANY policy, two pages), asks whether its launch will succeed, then breaks one thing and asks again; then for
+ * a platform that reserves a byte of its second page; then under a LIST policy whose file is not of the grammar, where the answer says which byte is
+ * wrong. */
 #include "bleiwurzel.h"
 #include <inttypes.h>
 #include <stdio.h>
@@ -12,7 +13,7 @@ static uint8_t window[6 * PAGE]; /* 0x100000 on: unused, pointer table, director
 static uint8_t heap[124];        /* BiosData 8, OsMleData 8, OsSinitData 108 bytes */
 static uint8_t sinit[768];
 static uint8_t record[70];
-static const struct bleiwurzel_platform platform = {
+static struct bleiwurzel_platform platform = { /* what is not named here is 0: no reserved ranges */
     .window_base = BASE,
     .heap_base = 0x300000,
     .sinit_base = 0x200000,
@@ -136,6 +137,11 @@ int main(void)
     put(window + 3 * PAGE + 8, (BASE + 4 * PAGE) | 1, 8); /* both entries name one page: BLEIWURZEL_NOT_ASCENDING */
     ask();
     put(window + 3 * PAGE + 8, (BASE + 5 * PAGE) | 1, 8);
+    platform.reserved[0].base = BASE + 6 * PAGE - 1; /* the last byte of the second page: BLEIWURZEL_FORBIDDEN_RANGE */
+    platform.reserved[0].size = 1;
+    platform.reserved_count = 1;
+    ask();
+    platform.reserved_count = 0;
     build_policy(0x0300); /* a list version that is not of the grammar, at offset 36: BLEIWURZEL_POLICY_GRAMMAR */
     ask();
     return 0;

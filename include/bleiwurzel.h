@@ -28,8 +28,8 @@ extern "C" {
 enum bleiwurzel_number {
     /* The launch is permitted. */
     BLEIWURZEL_PERMITTED = 0,
-    /* The window base is no multiple of 4096, the window is over 128 MiB, the heap is over 1 MiB, the STM image is over 16 MiB, or base plus
-     * size of window, heap or DPR is over 2^52. */
+    /* The window base is no multiple of 4096, the window is over 128 MiB, the heap is over 1 MiB, the STM image is over 16 MiB, there are over
+     * 16 reserved ranges, or base plus size of window, heap, DPR or a reserved range is over 2^52. */
     BLEIWURZEL_LIMITS = 1,
     /* BiosData, OsMleData and OsSinitData do not fit into the heap, one behind the other. */
     BLEIWURZEL_HEAP_PARTS = 2,
@@ -61,7 +61,7 @@ enum bleiwurzel_number {
     BLEIWURZEL_OUTSIDE_WINDOW = 15,
     /* An address in the tables is not above the one found before it. */
     BLEIWURZEL_NOT_ASCENDING = 16,
-    /* A table or a page touches 0xA0000 to 0xFFFFF, the heap or the SINIT module. */
+    /* A table or a page touches 0xA0000 to 0xFFFFF, the heap, the SINIT module or a reserved range of the platform. */
     BLEIWURZEL_FORBIDDEN_RANGE = 17,
     /* The tables take a 41st page, the pointer table and the directories counted. */
     BLEIWURZEL_TABLE_PAGES = 18,
@@ -87,7 +87,7 @@ enum bleiwurzel_number {
     BLEIWURZEL_POLICY_HASH = 28,
     /* No list of the policy file permits this image. */
     BLEIWURZEL_NO_LIST = 29,
-    /* The file is no capture: its mark, version or lengths are wrong, or it has over 65536 bytes. */
+    /* The file is no capture: its mark, version, count of reserved ranges or lengths are wrong, or it has over 65536 bytes. */
     BLEIWURZEL_CAPTURE = 30,
     /* The description of a policy file is outside the grammar, or an element has another type than 0x10 and 3. */
     BLEIWURZEL_POLICY_DESCRIPTION = 31,
@@ -106,6 +106,9 @@ enum bleiwurzel_number {
 /* The most pages of tables, the table base and the directories counted. */
 #define BLEIWURZEL_MOST_TABLES 40u
 
+/* The most reserved ranges of a platform. */
+#define BLEIWURZEL_MOST_RESERVED 16u
+
 /* How many places the programs for captures lend: with as many, a capture gets the answer that they print. */
 #define BLEIWURZEL_CAPTURE_PLACES 4096u
 
@@ -123,6 +126,12 @@ enum bleiwurzel_number {
 /* The offset of the first list of every policy file. */
 #define BLEIWURZEL_FIRST_LIST 36u
 
+/* A range of physical memory: its first byte, and its size in bytes. With size 0 it reserves nothing. */
+struct bleiwurzel_range {
+    uint64_t base;
+    uint64_t size;
+};
+
 /* The platform, as chipset registers and firmware report it. */
 struct bleiwurzel_platform {
     uint64_t window_base;    /* physical address of the window's first byte */
@@ -134,6 +143,8 @@ struct bleiwurzel_platform {
     uint16_t vendor;         /* chipset vendor, device and revision (TXT.DIDVID) */
     uint16_t device;
     uint16_t revision;
+    uint32_t reserved_count; /* how many ranges no table and no page may touch besides 0xA0000 to 0xFFFFF; in a zeroed struct none */
+    struct bleiwurzel_range reserved[BLEIWURZEL_MOST_RESERVED]; /* they may overlap each other; those past the count are ignored */
 };
 
 /* The answer. On a refusal pages is 0, list 255 and the digest all zero. */
@@ -159,8 +170,10 @@ struct bleiwurzel_answer {
  * Whether the next launch will succeed.
  *
  * Lent for reading: window, heap, sinit (the SINIT module, of header version 0.0 or 3.0), record (the policy record of 70 bytes) and stm (the
- * STM image), each with its length in bytes. The nine numbers after them are the platform's, in the order of struct bleiwurzel_platform. The
- * policy file of a LIST policy is read from the window, where OsSinitData says it is. A signed list of it permits like an unsigned one if its
+ * STM image), each with its length in bytes. The ten numbers after them are the platform's, in the order of struct bleiwurzel_platform. Lent for
+ * reading behind them: reserved, always 32 numbers, which are base and size in turn of 16 reserved ranges. The first reserved_count of the ranges
+ * count, and the others may hold anything; a reserved_count over 16 is refused with 1.
+ * The policy file of a LIST policy is read from the window, where OsSinitData says it is. A signed list of it permits like an unsigned one if its
  * signature verifies (see bleiwurzel_rsa_verify) and its counter is at least the one that the record has for the list of its number.
  * The STM image is exactly the bytes that SINIT measures: the STM's static image, from the first byte of MSEG on and as long as the STM's header
  * says. All of what is lent is hashed, and no field of it is read. With no STM its length is 0. It is hashed at most once, and only where a list
@@ -173,12 +186,15 @@ struct bleiwurzel_answer {
 uint32_t bleiwurzel_check(const uint8_t *window, size_t window_length, const uint8_t *heap, size_t heap_length, const uint8_t *sinit,
                           size_t sinit_length, const uint8_t *record, size_t record_length, const uint8_t *stm, size_t stm_length,
                           uint64_t window_base, uint64_t heap_base, uint64_t sinit_base, uint64_t dpr_base, uint64_t dpr_size,
-                          uint64_t acram_capacity, uint16_t vendor, uint16_t device, uint16_t revision, uint64_t *pages, size_t places,
-                          uint32_t counts[2], uint32_t place[1], uint8_t digest[32]);
+                          uint64_t acram_capacity, uint16_t vendor, uint16_t device, uint16_t revision, uint32_t reserved_count,
+                          const uint64_t reserved[32], uint64_t *pages, size_t places, uint32_t counts[2], uint32_t place[1],
+                          uint8_t digest[32]);
 
 /*
- * The same for a capture file: the mark `LPC`, 16-bit version 1, the platform, four 32-bit lengths (window, heap, module, record), the four
- * parts; 75 bytes before the parts, at most 65536 in all, nothing after. A capture has no STM image.
+ * The same for a capture file: the mark `LPC`, 16-bit version 1, the platform's first nine numbers, four 32-bit lengths (window, heap, module,
+ * record), the four parts; 75 bytes before the parts, at most 65536 in all, nothing after. In version 2 a 16-bit count of reserved ranges, at most
+ * 16, and that many pairs of 64-bit base and size stand before the lengths; so it has 77 bytes and 16 for each range before the parts. A capture has
+ * no STM image.
  *
  * Lent for reading: capture. Written: as by bleiwurzel_check.
  * Answers 0 to 30; 30 where the bytes are no capture.
@@ -198,8 +214,8 @@ uint32_t bleiwurzel_check_measured(const uint8_t *window, size_t window_length, 
                                    const uint8_t *sinit, size_t sinit_length, const uint8_t *record, size_t record_length,
                                    const uint8_t *stm, size_t stm_length, uint64_t window_base, uint64_t heap_base, uint64_t sinit_base,
                                    uint64_t dpr_base, uint64_t dpr_size, uint64_t acram_capacity, uint16_t vendor, uint16_t device,
-                                   uint16_t revision, uint64_t *pages, size_t places, uint32_t counts[2], uint32_t place[1],
-                                   uint8_t digest[32], uint8_t measurement[32]);
+                                   uint16_t revision, uint32_t reserved_count, const uint64_t reserved[32], uint64_t *pages,
+                                   size_t places, uint32_t counts[2], uint32_t place[1], uint8_t digest[32], uint8_t measurement[32]);
 
 /* ---- The reader of policy files ----------------------------------------------------------------------------------------------------- */
 
@@ -327,6 +343,15 @@ bool bleiwurzel_rsa_verify(const uint8_t *key, size_t key_length, const uint8_t 
 
 /* ---- Shorter to call ---------------------------------------------------------------------------------------------------------------- */
 
+/* The platform's reserved ranges as bleiwurzel_check takes them: base and size in turn, those past the count too. */
+static inline void bleiwurzel_reserved(const struct bleiwurzel_platform *platform, uint64_t reserved[2 * BLEIWURZEL_MOST_RESERVED])
+{
+    for (size_t i = 0; i < BLEIWURZEL_MOST_RESERVED; i++) {
+        reserved[2 * i] = platform->reserved[i].base;
+        reserved[2 * i + 1] = platform->reserved[i].size;
+    }
+}
+
 /* bleiwurzel_check with the platform as a struct and the answer as a struct. pages is written as said there. Where there is no STM image,
  * stm may be NULL, with stm_length 0. */
 static inline struct bleiwurzel_answer bleiwurzel_launch(const uint8_t *window, size_t window_length, const uint8_t *heap,
@@ -338,11 +363,13 @@ static inline struct bleiwurzel_answer bleiwurzel_launch(const uint8_t *window, 
     struct bleiwurzel_answer answer;
     uint32_t counts[2], place[1];
     const uint8_t no_image = 0; /* the library follows no pointer of length 0, but none may be NULL */
+    uint64_t reserved[2 * BLEIWURZEL_MOST_RESERVED];
+    bleiwurzel_reserved(platform, reserved);
     answer.number = bleiwurzel_check(window, window_length, heap, heap_length, sinit, sinit_length, record, record_length,
                                      stm_length == 0 ? &no_image : stm, stm_length, platform->window_base, platform->heap_base,
                                      platform->sinit_base, platform->dpr_base, platform->dpr_size, platform->acram_capacity,
-                                     platform->vendor, platform->device, platform->revision, pages, places, counts, place,
-                                     answer.digest);
+                                     platform->vendor, platform->device, platform->revision, platform->reserved_count, reserved, pages,
+                                     places, counts, place, answer.digest);
     answer.pages = counts[0];
     answer.list = counts[1];
     answer.place = place[0];

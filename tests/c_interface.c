@@ -48,45 +48,57 @@ static void launches(void)
     NEED(launched(stm, BLEIWURZEL_MOST_STM + 1, list, 3).number == BLEIWURZEL_LIMITS);
 }
 
-static uint8_t capture[75 + sizeof window + sizeof heap + sizeof sinit + sizeof record];
+/* Room for a capture of either version, and for one reserved range more than there may be. */
+static uint8_t capture[77 + 16 * (BLEIWURZEL_MOST_RESERVED + 1) + sizeof window + sizeof heap + sizeof sinit + sizeof record];
 
-/* Makes a capture of the parts as they are. */
-static void build_capture(void)
+/* Makes a capture of the platform and the parts as they are, and gives its length. Version 1 has no reserved ranges. */
+static size_t build_capture(uint16_t version)
 {
     const uint64_t numbers[6] = { platform.window_base, platform.heap_base, platform.sinit_base,
                                   platform.dpr_base,    platform.dpr_size,  platform.acram_capacity };
-    put_bytes(capture, "LPC\1\0", 5);
+    put_bytes(capture, "LPC", 3);
+    put(capture + 3, version, 2);
     for (int i = 0; i < 6; i++)
         put(capture + 5 + 8 * i, numbers[i], 8);
     put(capture + 53, platform.vendor, 2);
     put(capture + 55, platform.device, 2);
     put(capture + 57, platform.revision, 2);
-    put(capture + 59, sizeof window, 4);
-    put(capture + 63, sizeof heap, 4);
-    put(capture + 67, sizeof sinit, 4);
-    put(capture + 71, sizeof record, 4);
-    uint8_t *at = capture + 75;
+    uint8_t *at = capture + 59;
+    if (version == 2) {
+        put(at, platform.reserved_count, 2);
+        at += 2;
+        for (uint32_t i = 0; i < platform.reserved_count; i++, at += 16) {
+            put(at, platform.reserved[i].base, 8);
+            put(at + 8, platform.reserved[i].size, 8);
+        }
+    }
+    put(at, sizeof window, 4);
+    put(at + 4, sizeof heap, 4);
+    put(at + 8, sizeof sinit, 4);
+    put(at + 12, sizeof record, 4);
+    at += 16;
     at = (uint8_t *)memcpy(at, window, sizeof window) + sizeof window;
     at = (uint8_t *)memcpy(at, heap, sizeof heap) + sizeof heap;
     at = (uint8_t *)memcpy(at, sinit, sizeof sinit) + sizeof sinit;
-    memcpy(at, record, sizeof record);
+    at = (uint8_t *)memcpy(at, record, sizeof record) + sizeof record;
+    return (size_t)(at - capture);
 }
 
 static void captures(void)
 {
-    build_capture();
+    const size_t length = build_capture(1);
     uint64_t list[2] = { UNTOUCHED, UNTOUCHED };
-    struct bleiwurzel_answer a = bleiwurzel_launch_capture(capture, sizeof capture - 1, list, 2);
+    struct bleiwurzel_answer a = bleiwurzel_launch_capture(capture, length - 1, list, 2);
     NEED(a.number == BLEIWURZEL_CAPTURE && a.place == 0 && list[0] == UNTOUCHED);
-    a = bleiwurzel_launch_capture(capture, sizeof capture, list, 2);
+    a = bleiwurzel_launch_capture(capture, length, list, 2);
     NEED(a.number == BLEIWURZEL_PERMITTED && a.pages == 2 && list[0] == 0x104000 && list[1] == 0x105000);
     static uint64_t many[BLEIWURZEL_MOST_PAGES];
     uint8_t *size = capture + 75 + sizeof window + 24 + 16; /* MLE Size */
     put(size, (BLEIWURZEL_CAPTURE_PLACES + 1) * PAGE, 8);   /* a page more than the programs for captures lend places */
-    NEED(bleiwurzel_launch_capture(capture, sizeof capture, many, BLEIWURZEL_CAPTURE_PLACES).number == BLEIWURZEL_PAGE_LIST);
-    NEED(bleiwurzel_launch_capture(capture, sizeof capture, many, BLEIWURZEL_MOST_PAGES).number == BLEIWURZEL_PAGE_COUNT);
+    NEED(bleiwurzel_launch_capture(capture, length, many, BLEIWURZEL_CAPTURE_PLACES).number == BLEIWURZEL_PAGE_LIST);
+    NEED(bleiwurzel_launch_capture(capture, length, many, BLEIWURZEL_MOST_PAGES).number == BLEIWURZEL_PAGE_COUNT);
     put(size, (BLEIWURZEL_MOST_PAGES + 1) * PAGE, 8); /* a page more than an image may have */
-    NEED(bleiwurzel_launch_capture(capture, sizeof capture, many, BLEIWURZEL_MOST_PAGES).number == BLEIWURZEL_MLE_SIZE);
+    NEED(bleiwurzel_launch_capture(capture, length, many, BLEIWURZEL_MOST_PAGES).number == BLEIWURZEL_MLE_SIZE);
 }
 
 /* bleiwurzel_check_measured with an STM image, for a page list of two places. bleiwurzel_check, by bleiwurzel_launch, must answer the same, and
@@ -94,11 +106,14 @@ static void captures(void)
 static uint32_t measured(const uint8_t *stm, size_t stm_length, uint8_t digest[32], uint8_t measurement[32])
 {
     uint64_t list[2] = { UNTOUCHED, UNTOUCHED }, other[2] = { UNTOUCHED, UNTOUCHED };
+    uint64_t reserved[2 * BLEIWURZEL_MOST_RESERVED];
     uint32_t counts[2], place[1] = { 1 };
+    bleiwurzel_reserved(&platform, reserved);
     uint32_t number = bleiwurzel_check_measured(window, sizeof window, heap, sizeof heap, sinit, sizeof sinit, record, sizeof record, stm,
                                                 stm_length, platform.window_base, platform.heap_base, platform.sinit_base, platform.dpr_base,
                                                 platform.dpr_size, platform.acram_capacity, platform.vendor, platform.device,
-                                                platform.revision, list, 2, counts, place, digest, measurement);
+                                                platform.revision, platform.reserved_count, reserved, list, 2, counts, place, digest,
+                                                measurement);
     struct bleiwurzel_answer a = launched(stm, stm_length, other, 2);
     NEED(a.number == number && a.pages == counts[0] && a.list == counts[1] && a.place == place[0]);
     NEED(number == BLEIWURZEL_POLICY_GRAMMAR || place[0] == 0);
@@ -128,6 +143,63 @@ static void refusals(void)
     }
     static uint8_t stm[BLEIWURZEL_MOST_STM + 1];
     NEED(measured(stm, sizeof stm, digest, measurement) == BLEIWURZEL_LIMITS);
+}
+
+/* The number where the platform has so many reserved ranges and one of its 16 is this; the others are of size 0. */
+static uint32_t reserving(uint32_t count, size_t index, uint64_t base, uint64_t size)
+{
+    static const uint8_t zeros[32];
+    uint8_t digest[32], measurement[32];
+    memset(platform.reserved, 0, sizeof platform.reserved);
+    platform.reserved[index].base = base;
+    platform.reserved[index].size = size;
+    platform.reserved_count = count;
+    uint32_t number = measured(zeros, 0, digest, measurement);
+    platform.reserved_count = 0;
+    return number;
+}
+
+/* Tables and pages fill the window from its second page to its end. */
+static void reserved_ranges(void)
+{
+    const uint64_t tables = BASE + PAGE, end = BASE + sizeof window, top = (uint64_t)1 << 52;
+    const size_t last = BLEIWURZEL_MOST_RESERVED - 1;
+    NEED(reserving(1, 0, BASE, PAGE) == BLEIWURZEL_PERMITTED);
+    NEED(reserving(1, 0, BASE, PAGE + 1) == BLEIWURZEL_FORBIDDEN_RANGE);
+    NEED(reserving(1, 0, end, 1) == BLEIWURZEL_PERMITTED);
+    NEED(reserving(1, 0, end - 1, 1) == BLEIWURZEL_FORBIDDEN_RANGE);
+    NEED(reserving(1, 0, end - 1, 0) == BLEIWURZEL_PERMITTED);
+    NEED(reserving(16, last, tables, 1) == BLEIWURZEL_FORBIDDEN_RANGE);
+    NEED(reserving(15, last, tables, 1) == BLEIWURZEL_PERMITTED); /* past the count */
+    NEED(reserving(16, last, top, 0) == BLEIWURZEL_PERMITTED);
+    NEED(reserving(16, last, top, 1) == BLEIWURZEL_LIMITS);
+    NEED(reserving(16, last, top + 1, 0) == BLEIWURZEL_LIMITS);
+    NEED(reserving(16, last, UINT64_MAX, 2) == BLEIWURZEL_LIMITS);
+    NEED(reserving(15, last, UINT64_MAX, 2) == BLEIWURZEL_PERMITTED);
+    NEED(reserving(16, last, 0, 0) == BLEIWURZEL_PERMITTED);
+    NEED(reserving(17, last, 0, 0) == BLEIWURZEL_LIMITS);
+    NEED(reserving(0xFFFFFFFF, last, 0, 0) == BLEIWURZEL_LIMITS);
+}
+
+/* Captures of version 2: a range in the second page, which version 1 does not have; 16 ranges that hinder nothing, and 17; none. */
+static void reserving_captures(void)
+{
+    uint64_t list[2];
+    platform.reserved[0].base = BASE + sizeof window - 1;
+    platform.reserved[0].size = 1;
+    platform.reserved_count = 1;
+    NEED(bleiwurzel_launch_capture(capture, build_capture(2), list, 2).number == BLEIWURZEL_FORBIDDEN_RANGE);
+    NEED(bleiwurzel_launch_capture(capture, build_capture(1), list, 2).number == BLEIWURZEL_PERMITTED);
+    memset(platform.reserved, 0, sizeof platform.reserved);
+    platform.reserved_count = BLEIWURZEL_MOST_RESERVED;
+    const size_t length = build_capture(2);
+    NEED(bleiwurzel_launch_capture(capture, length, list, 2).number == BLEIWURZEL_PERMITTED);
+    memmove(capture + 61 + 16, capture + 61, length - 61); /* the first range twice */
+    put(capture + 59, BLEIWURZEL_MOST_RESERVED + 1, 2);
+    NEED(bleiwurzel_launch_capture(capture, length + 16, list, 2).number == BLEIWURZEL_CAPTURE);
+    platform.reserved_count = 0;
+    NEED(bleiwurzel_launch_capture(capture, build_capture(2), list, 2).number == BLEIWURZEL_PERMITTED);
+    NEED(bleiwurzel_launch_capture(capture, build_capture(3), list, 2).number == BLEIWURZEL_CAPTURE);
 }
 
 /* Puts a policy file of one unsigned list, whose elements have this size, at the window's front, and makes the record one of type LIST whose
@@ -204,10 +276,10 @@ static void places(void)
         build_policy(0x0201);
         window[cases[i].byte] ^= cases[i].changed;
         put(heap + 24 + 72, cases[i].size, 8);
-        build_capture();
+        const size_t length = build_capture(1);
         NEED(measured(zeros, 0, digest, measurement) == BLEIWURZEL_POLICY_GRAMMAR);
         NEED(launched(NULL, 0, list, 2).place == cases[i].place);
-        NEED(bleiwurzel_launch_capture(capture, sizeof capture, list, 2).place == cases[i].place && list[0] == UNTOUCHED);
+        NEED(bleiwurzel_launch_capture(capture, length, list, 2).place == cases[i].place && list[0] == UNTOUCHED);
         NEED(bleiwurzel_policy(window, cases[i].size, lists, place) == BLEIWURZEL_POLICY_GRAMMAR);
         NEED(lists[0] == 0 && place[0] == cases[i].place);
         window[cases[i].byte] ^= cases[i].changed;
@@ -382,6 +454,8 @@ int main(void)
     launches();
     captures();
     refusals();
+    reserved_ranges();
+    reserving_captures();
     measurements();
     stm_images();
     places();

@@ -1,4 +1,4 @@
--- The platform, which is passed number by number, and the answer, which is given as a number and arrays.
+-- The platform, which is passed number by number, with the reserved ranges in an array, and the answer, which is given as a number and arrays.
 use Prim.Native.Nat.{ℕ}
 use mathlib.Core.Path.{_≡_}
 use mathlib.Core.List.{List, [], _∷_}
@@ -7,8 +7,8 @@ use Rattle.answer.specs.declared.Answer.{Answer}
 use Rattle.launch.specs.Rules.{Input}
 use Rattle.launch.specs.Answer.{answerOf, placesOf, measurementOf}
 
-abbrev pub platformOf : ℕ → ℕ → ℕ → ℕ → ℕ → ℕ → ℕ → ℕ → ℕ → Platform
-platformOf window heap sinit dpr dprSize capacity vendor device revision =
+abbrev pub platformOf : ℕ → ℕ → ℕ → ℕ → ℕ → ℕ → ℕ → ℕ → ℕ → ℕ → List ℕ → Platform
+platformOf window heap sinit dpr dprSize capacity vendor device revision count reserved =
     record {
       «window_base» = window;
       «heap_base» = heap;
@@ -19,6 +19,7 @@ platformOf window heap sinit dpr dprSize capacity vendor device revision =
       vendor = vendor;
       device = device;
       revision = revision;
+      reserved = record { count = count; numbers = reserved };
     }
 
 -- how many pages, and the list

@@ -11,6 +11,8 @@ ghost use Rattle.launch.specs.Rules.{inputOf};
 ghost use Rattle.capture.specs.Capture.{captureAnswer, capturePlaces};
 ghost use Rattle.bleiwurzel.specs.Scalars.{platformOf, Given, GivenFor, MeasuredFor};
 use launch::Platform;
+use launch::RESERVED_NUMBERS;
+use launch::ReservedRanges;
 
 // Whether the next launch will succeed: the number. On permission the first places of `pages` hold the addresses of the pages. `counts` gets the
 // number of pages and the list, `place` on 27 the offset of the first field at fault in the policy file, else 0, `digest` the digest of the pages.
@@ -30,6 +32,8 @@ pub extern "C" fn bleiwurzel_check(
     vendor: u16,
     device: u16,
     revision: u16,
+    reserved_count: u32,
+    reserved: &[u64; RESERVED_NUMBERS],
     pages: &mut [u64],
     counts: &mut [u32; 2],
     place: &mut [u32; 1],
@@ -37,7 +41,7 @@ pub extern "C" fn bleiwurzel_check(
 ) -> u32
     ensures { λ r. ⌜ GivenFor
         (inputOf (now (window .entry)) (now (heap .entry)) (now (sinit .entry)) (now («record» .entry)) (now (stm .entry))
-        (platformOf «window_base» «heap_base» «sinit_base» «dpr_base» «dpr_size» «acram_capacity» vendor device revision)
+        (platformOf «window_base» «heap_base» «sinit_base» «dpr_base» «dpr_size» «acram_capacity» vendor device revision «reserved_count» (now (reserved .entry)))
         (length (now (pages .entry))))
         (now (pages .entry)) r (now (pages .exit)) (now (counts .exit)) (now (place .exit)) (now (digest .exit)) ⌝ }
 {
@@ -57,6 +61,8 @@ pub extern "C" fn bleiwurzel_check(
         vendor,
         device,
         revision,
+        reserved_count,
+        reserved,
         pages,
         counts,
         place,
@@ -82,6 +88,8 @@ pub extern "C" fn bleiwurzel_check_measured(
     vendor: u16,
     device: u16,
     revision: u16,
+    reserved_count: u32,
+    reserved: &[u64; RESERVED_NUMBERS],
     pages: &mut [u64],
     counts: &mut [u32; 2],
     place: &mut [u32; 1],
@@ -90,10 +98,11 @@ pub extern "C" fn bleiwurzel_check_measured(
 ) -> u32
     ensures { λ r. ⌜ MeasuredFor
         (inputOf (now (window .entry)) (now (heap .entry)) (now (sinit .entry)) (now («record» .entry)) (now (stm .entry))
-        (platformOf «window_base» «heap_base» «sinit_base» «dpr_base» «dpr_size» «acram_capacity» vendor device revision)
+        (platformOf «window_base» «heap_base» «sinit_base» «dpr_base» «dpr_size» «acram_capacity» vendor device revision «reserved_count» (now (reserved .entry)))
         (length (now (pages .entry))))
         (now (pages .entry)) r (now (pages .exit)) (now (counts .exit)) (now (place .exit)) (now (digest .exit)) (now (measurement .exit)) ⌝ }
 {
+    let numbers = *reserved;
     let platform = Platform {
         window_base: window_base,
         heap_base: heap_base,
@@ -104,6 +113,10 @@ pub extern "C" fn bleiwurzel_check_measured(
         vendor: vendor,
         device: device,
         revision: revision,
+        reserved: ReservedRanges {
+            count: reserved_count,
+            numbers: numbers,
+        },
     };
     let a = launch::check_measured(
         window,

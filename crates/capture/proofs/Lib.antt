@@ -1,2 +1,3 @@
 -- The laws of captures.
+mod Ranges
 pub mod Conditions

@@ -1,33 +1,60 @@
--- The capture file: what the check is handed over, in one string, and the answer for it.
-use Prim.Native.Nat.{ℕ, _+_, _≤_}
+-- The capture file: what the check is handed over, in one string, and the answer for it. Version 2 has the ranges that the platform reserves.
+use Prim.Native.Nat.{ℕ, zero, suc, _+_, _-_, _*_, _≤_}
 use mathlib.Core.Path.{_≡_}
-use mathlib.Core.Logic.{_↔_}
-use mathlib.Core.Bool.{Bool, true, cond}
-use mathlib.Core.List.{List, [], _∷_}
+use mathlib.Core.Logic.{_↔_, _⊎_}
+use mathlib.Core.Bool.{Bool, true, cond, _||_}
+use mathlib.Core.List.{List, [], _∷_, _++_}
 use lib.Dec.{leb, eqb}
-use lib.ListN.{length, take, drop}
+use lib.ListN.{length, take, drop, replicate}
 use Rattle.field.specs.Field.{numberAt, markedAt}
 use Rattle.rules.specs.Rules.{all}
+use Rattle.launch.specs.declared.ReservedRanges.{ReservedRanges}
 use Rattle.launch.specs.declared.Platform.{Platform}
 use Rattle.answer.specs.declared.Answer.{Answer}
 use Rattle.answer.specs.Answer.{refused}
-use Rattle.launch.specs.Rules.{Input}
+use Rattle.launch.specs.Rules.{Input, mostReserved}
 use Rattle.launch.specs.Answer.{answerOf, placesOf}
 use Rattle.capture.specs.declared.Offsets.{Offsets}
 
--- "mark `LPC`, 16-bit version 1"
+-- "mark `LPC`, 16-bit version"
 abbrev pub mark : List ℕ
 mark = 0x4C ∷ 0x50 ∷ 0x43 ∷ []
 
 abbrev pub version : List ℕ → ℕ
 version s = numberAt s 3 2
 
-abbrev pub knownVersion : ℕ
-knownVersion = 1
+abbrev pub knownVersion : ℕ → Bool
+knownVersion v = eqb v 1 || eqb v 2
+
+-- THE PLATFORM
+
+-- where the chipset revision ends
+abbrev pub revisionEnd : ℕ
+revisionEnd = 59
+
+-- "a 16-bit count" "after the chipset revision", in version 2
+unfoldable pub rangeCount : List ℕ → ℕ
+rangeCount s = cond (eqb (version s) 2) (numberAt s revisionEnd 2) 0
+
+-- "and that many pairs of 64-bit base and size": n numbers of 64 bits from an offset on
+unfoldable pub numbersAt : List ℕ → ℕ → ℕ → List ℕ
+numbersAt s at zero = []
+numbersAt s at (suc n) = numbersAt s at n ++ numberAt s (at + 8 * n) 8 ∷ []
+
+abbrev pub rangesAt : ℕ
+rangesAt = revisionEnd + 2
+
+-- zeros stand past the count
+unfoldable pub reservedOf : List ℕ → ReservedRanges
+reservedOf s =
+    record {
+      count = rangeCount s;
+      numbers = numbersAt s rangesAt (2 * rangeCount s) ++ replicate (2 * mostReserved - 2 * rangeCount s) 0;
+    }
 
 -- "the platform record in the order above": window base, heap base, SINIT base, DPR base, DPR size, ACRAM capacity; chipset vendor, device, revision
-unfoldable pub platformOf : List ℕ → Platform
-platformOf s =
+abbrev pub platformWith : List ℕ → ReservedRanges → Platform
+platformWith s reserved =
     record {
       «window_base» = numberAt s 5 8;
       «heap_base» = numberAt s 13 8;
@@ -38,6 +65,7 @@ platformOf s =
       vendor = numberAt s 53 2;
       device = numberAt s 55 2;
       revision = numberAt s 57 2;
+      reserved = reserved;
     }
 
 -- THE PARTS
@@ -75,21 +103,21 @@ module _ (s : List ℕ) (at : ℕ) where
   offsetsFrom = record { window = windowAt; heap = heapAt; sinit = sinitAt; «policy_record» = recordAt; end = endAt }
 
   -- what is handed over, for a page list of so many places; "the capture program lends an empty" STM image
-  abbrev pub inputFrom : ℕ → Input
-  inputFrom places =
+  abbrev pub inputFrom : ReservedRanges → ℕ → Input
+  inputFrom reserved places =
       record {
         window = take windowLength (drop windowAt s);
         heap = take heapLength (drop heapAt s);
         sinit = take sinitLength (drop sinitAt s);
         policyRecord = take recordLength (drop recordAt s);
         stm = [];
-        platform = platformOf s;
+        platform = platformWith s reserved;
         places = places;
       }
 
--- the lengths follow the chipset revision
-abbrev pub revisionEnd : ℕ
-revisionEnd = 59
+-- the lengths follow the chipset revision in version 1, and the ranges in version 2
+unfoldable pub lengthsAt : List ℕ → ℕ
+lengthsAt s = cond (eqb (version s) 2) (rangesAt + 16 * rangeCount s) revisionEnd
 
 -- CAPTURES
 
@@ -97,7 +125,7 @@ revisionEnd = 59
 abbrev pub largest : ℕ
 largest = 65536
 
--- what a capture must have besides its version, with the four lengths at an offset
+-- what both versions must have, with the four lengths at an offset
 abbrev pub testsFrom : List ℕ → ℕ → List Bool
 testsFrom s at =
     leb (windowAt s at) (length s)
@@ -107,21 +135,26 @@ testsFrom s at =
     ∷ []
 
 unfoldable pub captureTests : List ℕ → List Bool
-captureTests s = eqb (version s) knownVersion ∷ testsFrom s revisionEnd
+captureTests s =
+    knownVersion (version s)
+    -- "a count over 16 there is 30"
+    ∷ leb (rangeCount s) mostReserved
+    ∷ testsFrom s (lengthsAt s)
 
 -- the same as plain propositions
 pub record IsCapture (s : List ℕ) : Type 0 where
-  pub known : version s ≡ knownVersion
-  pub least : windowAt s revisionEnd ≤ length s
+  pub known : (version s ≡ 1) ⊎ (version s ≡ 2)
+  pub counted : rangeCount s ≤ mostReserved
+  pub least : windowAt s (lengthsAt s) ≤ length s
   pub most : length s ≤ largest
   pub marked : take (length mark) s ≡ mark
-  pub whole : endAt s revisionEnd ≡ length s
+  pub whole : endAt s (lengthsAt s) ≡ length s
 
 abbrev pub CaptureExactly : Type 0
 CaptureExactly = (s : List ℕ) → (all (captureTests s) ≡ true) ↔ IsCapture s
 
 abbrev pub inputIn : List ℕ → ℕ → Input
-inputIn s places = inputFrom s revisionEnd places
+inputIn s places = inputFrom s (lengthsAt s) (reservedOf s) places
 
 -- "Otherwise 30."
 abbrev pub notCapture : ℕ
@@ -137,3 +170,16 @@ capturePlaces s places = cond (all (captureTests s)) (placesOf (inputIn s (lengt
 -- no number is over 30
 abbrev pub NumberMost : Type 0
 NumberMost = (s : List ℕ) (places : ℕ) → captureAnswer s places .number ≤ notCapture
+
+-- VERSION 1
+
+-- a count of 0
+abbrev pub noneReserved : ReservedRanges
+noneReserved = record { count = 0; numbers = replicate (2 * mostReserved) 0 }
+
+-- "Version 1 files keep the answers": that of the check for the four parts behind 75 bytes, where it has them, with no range reserved, and else 30
+abbrev pub VersionOne : Type 0
+VersionOne = (s : List ℕ) (places : List ℕ) → version s ≡ 1
+    → (captureAnswer s (length places)
+    ≡ cond (all (testsFrom s revisionEnd)) (answerOf (inputFrom s revisionEnd noneReserved (length places))) (refused notCapture 0))
+    × (capturePlaces s places ≡ cond (all (testsFrom s revisionEnd)) (placesOf (inputFrom s revisionEnd noneReserved (length places)) places) places)

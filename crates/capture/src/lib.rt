@@ -1,27 +1,50 @@
 // Capture files: all that the check is handed over, in one string, and the answer for it.
 use answer::Answer;
 use field::number_or_zero;
+use launch::MOST_RESERVED;
 use launch::Platform;
+use launch::RESERVED_NUMBERS;
+use launch::ReservedRanges;
 ghost use mathlib.Core.Path.{_≡_};
 ghost use Prim.Native.Nat.{_<_, _≤_, _^_};
 ghost use lib.ListN.{length};
 ghost use Rattle.rules.specs.Rules.{all};
 ghost use Rattle.field.specs.Field.{numberAt};
-ghost use Rattle.capture.specs.Capture.{platformOf, revisionEnd, offsetsFrom, captureTests, captureAnswer, capturePlaces};
+ghost use Rattle.launch.specs.Rules.{mostReserved};
+ghost use Rattle.capture.specs.Capture as spec;
+ghost use Rattle.capture.specs.Capture.{rangeCount, reservedOf, platformWith, lengthsAt, offsetsFrom, captureTests, captureAnswer, capturePlaces};
 ghost use Rattle.capture.specs.Inner.{Rising};
 
 // The number of a string that is no capture.
 const NOT_CAPTURE: u32 = 30;
 
-const VERSION: u64 = 1;
+// The versions: the second has the reserved ranges.
+const FIRST: u64 = 1;
+
+const SECOND: u64 = 2;
 
 const LARGEST: usize = 65536;
 
 // What a program lends for the input: a byte more than a capture may have, so that a longer input is told from one.
 pub const INPUT: usize = LARGEST + 1;
 
-// Where the chipset revision ends: the four lengths follow.
+// Where the chipset revision ends: the lengths of version 1 follow, or the count of version 2.
 const REVISION_END: usize = 59;
+
+// The reserved ranges, of 16 bytes each.
+const RANGES: usize = REVISION_END + 2;
+
+fn version(s: &[u8]) -> u64
+    ensures { λ r. ⌜ r ≡ spec.version (now (s .entry)) ⌝ }
+{
+    number_or_zero(s, 3, 2)
+}
+
+fn is_known(version: u64) -> bool
+    ensures { λ r. ⌜ r ≡ spec.knownVersion version ⌝ }
+{
+    version == FIRST || version == SECOND
+}
 
 fn number16(s: &[u8], at: usize) -> u16
     ensures { λ r. ⌜ r ≡ numberAt (now (s .entry)) at 2 ⌝ }
@@ -35,8 +58,38 @@ fn length(s: &[u8], at: usize) -> usize
     number_or_zero(s, at, 4) as usize
 }
 
+// How many ranges are reserved.
+fn range_count(s: &[u8]) -> u32
+    ensures { λ r. ⌜ (r ≡ rangeCount (now (s .entry))) × (r < 2 ^ 16) ⌝ }
+{
+    if version(s) == SECOND {
+        number_or_zero(s, REVISION_END, 2) as u32
+    } else {
+        0
+    }
+}
+
+// Base and size of each reserved range.
+fn reserved(s: &[u8]) -> ReservedRanges
+    requires { ⌜ rangeCount (now s) ≤ mostReserved ⌝ }
+    ensures { λ r. ⌜ r ≡ reservedOf (now (s .entry)) ⌝ }
+{
+    let count = range_count(s);
+    let mut numbers = [0u64; RESERVED_NUMBERS];
+    let mut k: usize = 0;
+    while k < 2 * count as usize {
+        numbers[k] = number_or_zero(s, RANGES + 8 * k, 8);
+        k += 1;
+    }
+    ReservedRanges {
+        count: count,
+        numbers: numbers,
+    }
+}
+
 fn platform(s: &[u8]) -> Platform
-    ensures { λ r. ⌜ r ≡ platformOf (now (s .entry)) ⌝ }
+    requires { ⌜ rangeCount (now s) ≤ mostReserved ⌝ }
+    ensures { λ r. ⌜ r ≡ platformWith (now (s .entry)) (reservedOf (now (s .entry))) ⌝ }
 {
     Platform {
         window_base: number_or_zero(s, 5, 8),
@@ -48,6 +101,18 @@ fn platform(s: &[u8]) -> Platform
         vendor: number16(s, 53),
         device: number16(s, 55),
         revision: number16(s, 57),
+        reserved: reserved(s),
+    }
+}
+
+// The offset of the four lengths.
+fn lengths_at(s: &[u8]) -> usize
+    ensures { λ r. ⌜ (r ≡ lengthsAt (now (s .entry))) × (r < 2 ^ 21) ⌝ }
+{
+    if version(s) == SECOND {
+        RANGES + 16 * range_count(s) as usize
+    } else {
+        REVISION_END
     }
 }
 
@@ -61,9 +126,9 @@ pub struct Offsets {
 }
 
 fn offsets_in(s: &[u8]) -> Offsets
-    ensures { λ r. ⌜ (r ≡ offsetsFrom (now (s .entry)) revisionEnd) × Rising r ⌝ }
+    ensures { λ r. ⌜ (r ≡ offsetsFrom (now (s .entry)) (lengthsAt (now (s .entry)))) × Rising r ⌝ }
 {
-    let at = REVISION_END;
+    let at = lengths_at(s);
     let window = at + 16;
     let heap = window + length(s, at);
     let sinit = heap + length(s, at + 4);
@@ -82,7 +147,10 @@ fn offsets_in(s: &[u8]) -> Offsets
 fn holds(s: &[u8]) -> bool
     ensures { λ r. ⌜ r ≡ all (captureTests (now (s .entry))) ⌝ }
 {
-    if number_or_zero(s, 3, 2) != VERSION {
+    if !is_known(version(s)) {
+        return false;
+    }
+    if MOST_RESERVED < range_count(s) {
         return false;
     }
     if LARGEST < s.len() {

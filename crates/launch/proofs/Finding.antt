@@ -18,8 +18,9 @@ use Rattle.sinit.specs.declared.ModuleData.{ModuleData}
 use Rattle.sinit.specs.declared.ModuleAnswer.the-variants as modules
 use Rattle.sinit.specs.Rules as sinit
 use Rattle.sinit.proofs.Meaning as sinit-laws
-use Rattle.pages.specs.declared.Memory.{Memory}
+use Rattle.pages.specs.declared.MemoryRanges.{MemoryRanges}
 use Rattle.pages.specs.declared.WalkAnswer.the-variants as walks
+use Rattle.pages.specs.Memory.{Memory, memoryOf}
 use Rattle.pages.specs.Rules as pages
 use Rattle.pages.proofs.Meaning as walks-laws
 use Rattle.mle.specs.declared.Image.{Image}
@@ -28,7 +29,7 @@ use Rattle.launch.specs.declared.Platform.{Platform}
 use Rattle.launch.specs.declared.Found.{Found}
 use Rattle.launch.specs.declared.FindAnswer.{FindAnswer}
 use Rattle.launch.specs.declared.FindAnswer.the-variants.{Complete, Refused}
-use Rattle.launch.specs.Rules.{Input, inputOf, memoryFrom, chipsetOf, platformTests, imageRules, imageFound, pageRules, foundOf, os, moduleData, memory, found}
+use Rattle.launch.specs.Rules.{Input, inputOf, reservedNumbers, memoryFrom, chipsetOf, platformTests, imageRules, imageFound, pageRules, foundOf, os, moduleData, memory, found}
 use Rattle.launch.specs.Inner.{imageStage, pageStage, findStage}
 use Rattle.launch.proofs.Order.{heap-group, module-group, walk-group}
 
@@ -161,9 +162,10 @@ module _ (w h s r stm : List ℕ) (p : Platform) (places : ℕ) where
           group-refuses Refused whole module-rules afterModule n (a .0) (a .1) ∙ heap-passes
 
       pub module-passes : (m : ModuleData) → sinit.moduleOf s (p .«sinit_base») (p .«acram_capacity») (chipsetOf p) (o .version) ≡ modules.Module m
-          → (mem : Memory) → mem ≡ memoryFrom (length h) (length s) p o → pageStage w o m mem places ≡ findStage i
+          → (ranges : MemoryRanges) → ranges ≡ memoryFrom (length h) (length s) p o
+          → pageStage w o m (memoryOf ranges (reservedNumbers (p .reserved))) places ≡ findStage i
       unfolding pageStage
-      module-passes m e mem is-memory =
+      module-passes m e ranges is-memory =
           let a = sinit-laws.values-exactly s _ _ (chipsetOf p) (os i .version) m .0 (rw o-is at e) in
           let numbered = numbers-not-0 6 11 module-rules (lit< tt) (module-group s (p .«sinit_base») (p .«acram_capacity») (chipsetOf p) (os i .version) .numbers) in
           rw (is-memory, o-is, a .1) (group-passes Refused whole module-rules afterModule numbered (a .0)) ∙ heap-passes

@@ -11,3 +11,4 @@ mod Given
 mod Last
 pub mod Demand2
 pub mod Bodies
+pub mod Ignored

@@ -15,8 +15,7 @@ use Rattle.sinit.specs.declared.Chipset.{Chipset}
 use Rattle.sinit.specs.Rules as sinit
 use Rattle.pages.specs.declared.Kind.{Kind}
 use Rattle.pages.specs.declared.Kind.the-variants.{Pointer, Directory, Page}
-use Rattle.pages.specs.declared.Memory.{Memory}
-use Rattle.pages.specs.Memory.{windowOf}
+use Rattle.pages.specs.Memory.{Memory, windowOf}
 use Rattle.pages.specs.Tables as tables
 use Rattle.pages.specs.Rules.{State, startOf, afterEntry, baseRules, entryRules, rulesFrom, walkRules}
 use Rattle.policy_record.specs.Record.{policyType, LIST, recordRules}

@@ -6,7 +6,7 @@ use Rattle.rules.specs.Rules.{Rule, rule, answerBy}
 use Rattle.answer.specs.Answer.{refused}
 use Rattle.heap.specs.declared.OsSinitData.{OsSinitData}
 use Rattle.sinit.specs.declared.ModuleData.{ModuleData}
-use Rattle.pages.specs.declared.Memory.{Memory}
+use Rattle.pages.specs.Memory.{Memory}
 use Rattle.mle.specs.declared.Image.{Image}
 use Rattle.mle.specs.Image.{imageDigest}
 use Rattle.decision.specs.Lists.{somePermits, lowestPermitting}

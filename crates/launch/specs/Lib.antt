@@ -7,3 +7,4 @@ pub mod Meaning
 pub mod Demand1
 pub mod Demand2
 pub mod Bodies
+pub mod Ignored

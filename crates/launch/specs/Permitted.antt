@@ -3,7 +3,10 @@ use Prim.Native.Nat.{ℕ, _+_, _%_, _≤_}
 use mathlib.Core.Path.{_≡_}
 use mathlib.Core.List.{List}
 use lib.ListN.{length}
+use Rattle.range.specs.declared.Range.{Range}
 use Rattle.range.specs.Range.{endOf, highestEnd, pageSize}
+use Rattle.range.specs.Pairs.{rangesOf}
+use Rattle.rules.specs.Rules.{Every}
 use Rattle.heap.specs.Heap.{heapElements}
 use Rattle.heap.specs.Meaning as heap
 use Rattle.sinit.specs.Meaning as sinit
@@ -18,7 +21,7 @@ use Rattle.policy_record.specs.Meaning as records
 use Rattle.decision.specs.Meaning as decision
 use Rattle.launch.specs.declared.Platform.{Platform}
 use Rattle.launch.specs.declared.Found.{Found}
-use Rattle.launch.specs.Rules.{Input, mostWindow, mostHeap, mostStm, dprRange, chipsetOf, foundOf, os, moduleData, memory, policyFile, criteria}
+use Rattle.launch.specs.Rules.{Input, mostWindow, mostHeap, mostStm, mostReserved, dprRange, reservedNumbers, chipsetOf, foundOf, os, moduleData, memory, policyFile, criteria}
 
 -- 1
 pub record PlatformHolds (window heap stm : List ℕ) (p : Platform) : Type 0 where
@@ -29,6 +32,8 @@ pub record PlatformHolds (window heap stm : List ℕ) (p : Platform) : Type 0 wh
   pub windowEnd : endOf (windowOf window (p .«window_base»)) ≤ highestEnd
   pub heapEnd : p .«heap_base» + length heap ≤ highestEnd
   pub dprEnd : endOf (dprRange p) ≤ highestEnd
+  pub reservedMost : p .reserved .count ≤ mostReserved
+  pub reservedEnds : Every (λ (r : Range). endOf r ≤ highestEnd) (rangesOf (reservedNumbers (p .reserved)))
 
 -- 26 to 29, by what the launch finds
 pub record ListPermits (window policyRecord stm : List ℕ) (f : Found) : Type 0 where

@@ -4,17 +4,19 @@ use Prim.Native.Nat.{ℕ, _*_, _%_, _^_}
 use mathlib.Core.Bool.{Bool, cond}
 use mathlib.Core.List.{List, [], _∷_, _++_}
 use lib.Dec.{leb, eqb}
-use lib.ListN.{length}
+use lib.ListN.{length, take}
 use Rattle.range.specs.declared.Range.{Range}
 use Rattle.range.specs.Range.{endsBy, highestEnd, pageSize}
+use Rattle.range.specs.Pairs.{rangesOf}
 use Rattle.rules.specs.Rules.{Rule, rule, all}
+use Rattle.rules.specs.Tests.{every}
 use Rattle.heap.specs.declared.OsSinitData.{OsSinitData}
 use Rattle.heap.specs.Heap.{heapRules, heapFields, lowPmr, highPmr}
 use Rattle.sinit.specs.declared.Chipset.{Chipset}
 use Rattle.sinit.specs.declared.ModuleData.{ModuleData}
 use Rattle.sinit.specs.Rules as sinit
-use Rattle.pages.specs.declared.Memory.{Memory}
-use Rattle.pages.specs.Memory.{windowOf}
+use Rattle.pages.specs.declared.MemoryRanges.{MemoryRanges}
+use Rattle.pages.specs.Memory.{Memory, memoryOf, windowOf}
 use Rattle.pages.specs.Rules.{walkRules, endState}
 use Rattle.mle.specs.declared.Image.{Image}
 use Rattle.mle.specs.Image.{imageDigest}
@@ -23,6 +25,7 @@ use Rattle.policy_record.specs.Record.{policyType, LIST, recordRules}
 use Rattle.decision.specs.Lists.{Criteria, filePlaced, fileOf, somePermits}
 use Rattle.decision.specs.Answers.{criteriaBy, fileRules}
 use Rattle.launch.specs.declared.Platform.{Platform}
+use Rattle.launch.specs.declared.ReservedRanges.{ReservedRanges}
 use Rattle.launch.specs.declared.Found.{Found}
 
 -- what is lent for reading, the numbers of the platform, and how many places the page list has
@@ -44,8 +47,16 @@ inputOf w h s r stm platform n =
 abbrev pub dprRange : Platform → Range
 dprRange p = record { base = p .«dpr_base»; size = p .«dpr_size» }
 
+-- "up to 16 reserved ranges"
+abbrev pub mostReserved : ℕ
+mostReserved = 16
+
+-- base and size in turn, of those within the count: "ranges past the count are ignored"
+abbrev pub reservedNumbers : ReservedRanges → List ℕ
+reservedNumbers r = take (2 * r .count) (r .numbers)
+
 -- what the walk is told of the memory, by the lengths of heap and module: the PMRs are those of OsSinitData
-abbrev pub memoryFrom : ℕ → ℕ → Platform → OsSinitData → Memory
+abbrev pub memoryFrom : ℕ → ℕ → Platform → OsSinitData → MemoryRanges
 memoryFrom heap sinit p o =
     record {
       window = p .«window_base»;
@@ -69,8 +80,15 @@ mostHeap = 2 ^ 20
 abbrev pub mostStm : ℕ
 mostStm = 16 * 2 ^ 20
 
+-- "A count over 16, or an end over 2^52 within the count, at size 0 too"
+unfoldable pub reservedTests : ReservedRanges → List Bool
+reservedTests r =
+    leb (r .count) mostReserved
+    ∷ every (λ (a : Range). endsBy a highestEnd) (rangesOf (reservedNumbers r))
+    ∷ []
+
 -- 1. "window base no multiple of 4096; window over" the most; "heap over 1 MiB; base plus size of window, heap or DPR over 2^52"; of the STM image
--- "Over 16 MiB is 1"
+-- "Over 16 MiB is 1"; and those of the reserved ranges
 unfoldable pub platformTests : List ℕ → List ℕ → List ℕ → Platform → List Bool
 platformTests window heap stm p =
     eqb (p .«window_base» % pageSize) 0
@@ -80,7 +98,7 @@ platformTests window heap stm p =
     ∷ endsBy (windowOf window (p .«window_base»)) highestEnd
     ∷ endsBy (record { base = p .«heap_base»; size = length heap }) highestEnd
     ∷ endsBy (dprRange p) highestEnd
-    ∷ []
+    ∷ reservedTests (p .reserved)
 
 -- 12 and 13. "page list shorter than N"
 abbrev pub sizeRules : ℕ → ℕ → List Rule
@@ -130,7 +148,7 @@ module _ (i : Input) where
   moduleData = sinit.valuesOf (i .sinit)
 
   abbrev pub memory : Memory
-  memory = memoryFrom (length (i .heap)) (length (i .sinit)) (i .platform) os
+  memory = memoryOf (memoryFrom (length (i .heap)) (length (i .sinit)) (i .platform) os) (reservedNumbers (i .platform .reserved))
 
   abbrev pub image : Image
   image = imageFound (i .window) memory os

@@ -1,12 +1,15 @@
 // What the launch finds, rules 1 to 22: the platform, the heap, the SINIT module, the pages and the MLE header.
 use crate::FindAnswer;
 use crate::Found;
+use crate::MOST_RESERVED;
 use crate::Platform;
+use crate::ReservedRanges;
 use heap::HeapAnswer;
 use heap::OsSinitData;
 use mle::Image;
-use pages::Memory;
+use pages::MemoryRanges;
 use pages::WalkAnswer;
+use range::Condition;
 use range::HIGHEST_END;
 use range::PAGE_SIZE;
 use range::Range;
@@ -17,8 +20,10 @@ ghost use mathlib.Core.Path.{_≡_};
 ghost use Rattle.rules.specs.Rules.{all};
 ghost use Rattle.range.specs.Range.{endsBy, highestEnd};
 ghost use mathlib.Core.List.{List};
-ghost use Prim.Native.Nat.{ℕ};
-ghost use Rattle.launch.specs.Rules.{inputOf, platformTests, memoryFrom, chipsetOf, foundOf};
+ghost use Prim.Native.Nat.{ℕ, _≤_};
+ghost use Rattle.pages.specs.Memory.{memoryOf};
+ghost use Rattle.pages.specs.Rules.{walkOf};
+ghost use Rattle.launch.specs.Rules.{inputOf, mostReserved, reservedNumbers, reservedTests, platformTests, memoryFrom, chipsetOf, foundOf};
 ghost use Rattle.launch.specs.Inner.{imageStage, pageStage, findStage};
 
 // The most bytes of a window, of a heap and of an STM image.
@@ -32,6 +37,18 @@ fn ends(base: u64, size: u64) -> bool
     ensures { λ r. ⌜ r ≡ endsBy (record { base = base; size = size }) highestEnd ⌝ }
 {
     range::ends_by(Range { base, size }, HIGHEST_END)
+}
+
+// Rule 1, of the reserved ranges.
+fn reserved_holds(reserved: ReservedRanges) -> bool
+    ensures { λ r. ⌜ r ≡ all (reservedTests reserved) ⌝ }
+{
+    if MOST_RESERVED < reserved.count {
+        return false;
+    }
+    let numbers = reserved.numbers;
+    let end = 2 * reserved.count as usize;
+    range::all_meet(Condition::EndsBy(HIGHEST_END), &numbers[..end])
 }
 
 // Rule 1.
@@ -56,7 +73,10 @@ fn platform_holds(window: &[u8], heap: &[u8], stm: &[u8], p: Platform) -> bool
     if !ends(p.heap_base, heap.len() as u64) {
         return false;
     }
-    ends(p.dpr_base, p.dpr_size)
+    if !ends(p.dpr_base, p.dpr_size) {
+        return false;
+    }
+    reserved_holds(p.reserved)
 }
 
 fn chipset(p: Platform) -> Chipset
@@ -86,10 +106,10 @@ fn found(image: Image, o: OsSinitData, m: ModuleData) -> Found
 }
 
 // What the walk is told of the memory, by the lengths of heap and module.
-fn memory(heap: usize, sinit: usize, p: Platform, o: OsSinitData) -> Memory
+fn memory(heap: usize, sinit: usize, p: Platform, o: OsSinitData) -> MemoryRanges
     ensures { λ r. ⌜ r ≡ memoryFrom heap sinit p o ⌝ }
 {
-    Memory {
+    MemoryRanges {
         window: p.window_base,
         heap: Range {
             base: p.heap_base,
@@ -133,15 +153,27 @@ fn find_image(window: &[u8], o: OsSinitData, m: ModuleData, image: Image) -> Fin
     FindAnswer::Complete(found(image, o, m))
 }
 
+// Rules 14 to 20, with the reserved ranges within the count.
+fn walk(window: &[u8], memory: MemoryRanges, reserved: ReservedRanges, tables: u64) -> WalkAnswer
+    requires { ⌜ reserved .count ≤ mostReserved ⌝ }
+    ensures { λ r. ⌜ r ≡ walkOf (now (window .entry)) (memoryOf memory (reservedNumbers reserved)) tables ⌝ }
+{
+    let numbers = reserved.numbers;
+    let within = 2 * reserved.count as usize;
+    pages::walk(window, memory, &numbers[..within], tables)
+}
+
 // Rules 12 to 22, for a page list of so many places.
 fn find_pages(
     window: &[u8],
     o: OsSinitData,
     m: ModuleData,
-    memory: Memory,
+    memory: MemoryRanges,
+    reserved: ReservedRanges,
     places: usize,
 ) -> FindAnswer
-    ensures { λ r. ⌜ r ≡ pageStage (now (window .entry)) o m memory places ⌝ }
+    requires { ⌜ reserved .count ≤ mostReserved ⌝ }
+    ensures { λ r. ⌜ r ≡ pageStage (now (window .entry)) o m (memoryOf memory (reservedNumbers reserved)) places ⌝ }
 {
     if !mle::size_holds(o.mle_size) {
         return FindAnswer::Refused(12);
@@ -149,7 +181,7 @@ fn find_pages(
     if (places as u64) < o.mle_size / PAGE_SIZE {
         return FindAnswer::Refused(13);
     }
-    match pages::walk(window, memory, o.page_table_base) {
+    match walk(window, memory, reserved, o.page_table_base) {
         WalkAnswer::Refused(n) => FindAnswer::Refused(n),
         WalkAnswer::Mapped { first, count } => {
             let image = Image {
@@ -189,7 +221,7 @@ pub(crate) fn find(
             ModuleAnswer::Refused(n) => FindAnswer::Refused(n),
             ModuleAnswer::Module(m) => {
                 let memory = memory(heap.len(), sinit.len(), p, o);
-                find_pages(window, o, m, memory, places)
+                find_pages(window, o, m, memory, p.reserved, places)
             }
         },
     }

@@ -17,6 +17,18 @@ ghost use Rattle.launch.specs.Rules.{inputOf};
 ghost use Rattle.launch.specs.Answer.{answerOf, placesOf, measurementOf};
 ghost use Rattle.launch.specs.Inner.{outcomeOf};
 
+// The most ranges that a platform reserves.
+pub const MOST_RESERVED: u32 = 16;
+
+// How many numbers hold them: a base and a size each.
+pub const RESERVED_NUMBERS: usize = 32;
+
+// The ranges that the platform reserves, the base and the size of each in turn. Those past the count are ignored.
+pub struct ReservedRanges {
+    pub count: u32,
+    pub numbers: [u64; RESERVED_NUMBERS],
+}
+
 // The numbers of the platform.
 pub struct Platform {
     pub window_base: u64,
@@ -28,6 +40,7 @@ pub struct Platform {
     pub vendor: u16,
     pub device: u16,
     pub revision: u16,
+    pub reserved: ReservedRanges,
 }
 
 // What the launch finds and the policy is asked about: the pages of the MLE, where the window begins, where the policy file stands, and the flags

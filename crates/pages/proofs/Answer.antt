@@ -9,10 +9,9 @@ use Rattle.rules.proofs.Meaning.{numbered}
 use Rattle.rules.proofs.Answers.{for-zero, for-other}
 use Rattle.pages.specs.declared.Kind.{Kind}
 use Rattle.pages.specs.declared.Kind.the-variants.{Pointer, Directory, Page}
-use Rattle.pages.specs.declared.Memory.{Memory}
 use Rattle.pages.specs.declared.levels.Run.{Run}
 use Rattle.pages.specs.declared.WalkAnswer.the-variants.{Mapped, Refused}
-use Rattle.pages.specs.Memory.{windowOf}
+use Rattle.pages.specs.Memory.{Memory, windowOf}
 use Rattle.pages.specs.Tables.{Found, foundIn, found}
 use Rattle.pages.specs.Rules.{State, startOf, baseRules, rulesFrom, walkRules, endState, answerOf, walkOf}
 use Rattle.pages.specs.Meaning.{baseMeanings, walkMeanings}

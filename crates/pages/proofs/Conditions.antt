@@ -14,9 +14,8 @@ use Rattle.rules.proofs.Tests.{_&_, eqb-exactly, ltb-exactly, every-exactly, an
 use Rattle.range.proofs.Ranges.{inside-exactly, clear-exactly}
 use Rattle.pages.specs.declared.Kind.{Kind}
 use Rattle.pages.specs.declared.Kind.the-variants.{Pointer, Directory, Page}
-use Rattle.pages.specs.declared.Memory.{Memory}
 use Rattle.pages.specs.Entry.{addressOf}
-use Rattle.pages.specs.Memory.{pageOf, windowOf, forbidden, allowed, protected}
+use Rattle.pages.specs.Memory.{Memory, pageOf, windowOf, forbidden, allowed, protected}
 use Rattle.pages.specs.Tables.{Found, found}
 use Rattle.pages.specs.Rules.{State, startOf, afterEntry, baseRules, ownRules, entryRules, rulesFrom, walkRules}
 use Rattle.pages.specs.Meaning.{Within, Apart, Reserved, Placed, baseMeanings, ownMeanings, entryMeanings, meaningsFrom, walkMeanings}

@@ -12,9 +12,8 @@ use Rattle.rules.specs.Meaning.{AllSay}
 use Rattle.rules.proofs.Tests.{some-map}
 use Rattle.pages.specs.declared.Kind.{Kind}
 use Rattle.pages.specs.declared.Kind.the-variants.{Pointer, Directory, Page}
-use Rattle.pages.specs.declared.Memory.{Memory}
 use Rattle.pages.specs.Entry.{presentOf, addressOf}
-use Rattle.pages.specs.Memory.{regions, holding}
+use Rattle.pages.specs.Memory.{Memory, regions, holding}
 use Rattle.pages.specs.Tables.{levelSize, foundFrom}
 use Rattle.pages.specs.Rules.{State, mostTables, startOf, afterTable, afterPage, after, afterAll, entryRules, rulesFrom, walkRules, endState}
 use Rattle.pages.specs.Meaning.{Within, position, presentBelow, entry, Present, named, HoldsPages, ownMeanings, Walks}

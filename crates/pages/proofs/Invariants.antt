@@ -8,7 +8,7 @@ use Rattle.range.specs.declared.Range.{Range}
 use Rattle.rules.specs.Rules.{AllHold}
 use Rattle.rules.proofs.Rules.{all-append}
 use Rattle.pages.specs.declared.Kind.{Kind}
-use Rattle.pages.specs.declared.Memory.{Memory}
+use Rattle.pages.specs.Memory.{Memory}
 use Rattle.pages.specs.Entry.{presentOf, addressOf}
 use Rattle.pages.specs.Tables.{Found, foundOf, foundFrom}
 use Rattle.pages.specs.Rules.{State, after, afterAll, entryRules, rulesFrom}

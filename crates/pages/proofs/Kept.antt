@@ -11,9 +11,8 @@ use Rattle.range.proofs.Ranges.{inside-bounds}
 use Rattle.rules.specs.Tests.{any, filter}
 use Rattle.rules.proofs.Tests.{agrees, and-exactly}
 use Rattle.rules.proofs.Filter.{any-left, filter-twice}
-use Rattle.pages.specs.declared.Memory.{Memory}
 use Rattle.pages.specs.declared.levels.Progress.{Progress}
-use Rattle.pages.specs.Memory.{pageOf, regions, protected, holding}
+use Rattle.pages.specs.Memory.{Memory, pageOf, regions, protected, holding}
 use Rattle.pages.specs.Rules.{State, afterTable, afterPage}
 use Rattle.pages.specs.Inner.{commonOf, upTo, firstAddress, pagesTo, Above, Leads}
 

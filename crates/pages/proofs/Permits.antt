@@ -11,9 +11,8 @@ use Rattle.rules.specs.Rules.{Some, AllHold}
 use Rattle.rules.specs.Meaning.{AllSay}
 use Rattle.pages.specs.declared.Kind.{Kind}
 use Rattle.pages.specs.declared.Kind.the-variants.{Pointer, Directory, Page}
-use Rattle.pages.specs.declared.Memory.{Memory}
 use Rattle.pages.specs.Entry.{presentOf, addressOf}
-use Rattle.pages.specs.Memory.{regions, holding}
+use Rattle.pages.specs.Memory.{Memory, regions, holding}
 use Rattle.pages.specs.Tables.{levelSize}
 use Rattle.pages.specs.Rules.{State, mostTables, startOf, afterTable, afterPage, after, afterAll, entryRules, rulesFrom, walkRules}
 use Rattle.pages.specs.Meaning.{Within, position, presentBelow, entry, Present, named, ownMeanings, Walks}

@@ -13,9 +13,8 @@ use Rattle.rules.specs.Tests.{filter}
 use Rattle.rules.proofs.Tests.{and-exactly, some-map, where-holds}
 use Rattle.rules.proofs.Filter.{filter-twice, filter-same, some-filter}
 use Rattle.pages.specs.declared.Kind.the-variants.{Page}
-use Rattle.pages.specs.declared.Memory.{Memory}
 use Rattle.pages.specs.Entry.{presentOf, addressOf}
-use Rattle.pages.specs.Memory.{regions, holding}
+use Rattle.pages.specs.Memory.{Memory, regions, holding}
 use Rattle.pages.specs.Meaning.{Within, entry, Present, named, HoldsPages}
 use Rattle.pages.proofs.Conditions.{page-within}
 

@@ -7,7 +7,7 @@ use Rattle.rules.specs.Rules.{AllHold}
 use Rattle.rules.proofs.Rules.{all-append}
 use Rattle.pages.specs.declared.Kind.{Kind}
 use Rattle.pages.specs.declared.Kind.the-variants.{Pointer, Directory, Page}
-use Rattle.pages.specs.declared.Memory.{Memory}
+use Rattle.pages.specs.Memory.{Memory}
 use Rattle.pages.specs.Tables.{Found, levelSize, foundFrom, foundIn, found}
 use Rattle.pages.specs.Rules.{State, startOf, afterAll, baseRules, rulesFrom, walkRules, endState}
 use Rattle.pages.specs.Meaning.{entry}

@@ -13,7 +13,7 @@ use Rattle.rules.proofs.Rules.{Numbered, or-else-number, or-else-none, or-else-
 use Rattle.rules.proofs.Meaning.{numbered, all-mean}
 use Rattle.pages.specs.declared.Kind.{Kind}
 use Rattle.pages.specs.declared.Kind.the-variants.{Pointer, Directory, Page}
-use Rattle.pages.specs.declared.Memory.{Memory}
+use Rattle.pages.specs.Memory.{Memory}
 use Rattle.pages.specs.declared.levels.Run.{Run}
 use Rattle.pages.specs.declared.levels.Progress.{Progress}
 use Rattle.pages.specs.Entry.{presentOf, addressOf}

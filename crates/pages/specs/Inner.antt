@@ -10,10 +10,9 @@ use Rattle.rules.specs.Rules.{firstFailing, orElse}
 use Rattle.rules.specs.Tests.{filter}
 use Rattle.pages.specs.declared.Kind.{Kind}
 use Rattle.pages.specs.declared.Kind.the-variants.{Pointer, Directory, Page}
-use Rattle.pages.specs.declared.Memory.{Memory}
 use Rattle.pages.specs.declared.levels.Run.{Run}
 use Rattle.pages.specs.declared.levels.Progress.{Progress}
-use Rattle.pages.specs.Memory.{regions}
+use Rattle.pages.specs.Memory.{Memory, regions}
 use Rattle.pages.specs.Tables.{Found}
 use Rattle.pages.specs.Rules.{State, mostTables, afterAll, rulesFrom}
 

@@ -8,12 +8,11 @@ use Rattle.range.specs.declared.Range.{Range}
 use Rattle.range.specs.Range.{Has, pageSize}
 use Rattle.rules.specs.Rules.{firstFailing, Every, Some}
 use Rattle.rules.specs.Meaning.{Meaning, meaning, FirstBroken}
-use Rattle.pages.specs.declared.Memory.{Memory}
 use Rattle.pages.specs.declared.Kind.{Kind}
 use Rattle.pages.specs.declared.Kind.the-variants.{Pointer, Directory, Page}
 use Rattle.pages.specs.declared.WalkAnswer.the-variants.{Mapped, Refused}
 use Rattle.pages.specs.Entry.{presentOf, addressOf}
-use Rattle.pages.specs.Memory.{pageOf, windowOf, forbidden, regions, holding}
+use Rattle.pages.specs.Memory.{Memory, pageOf, windowOf, forbidden, regions, holding}
 use Rattle.pages.specs.Tables.{entryAt, levelSize, Found, found}
 use Rattle.pages.specs.Rules.{State, mostTables, startOf, afterEntry, walkRules, walkOf, numberOf}
 

@@ -6,8 +6,9 @@ use mathlib.Core.List.{List, [], _∷_}
 use lib.ListN.{length}
 use Rattle.range.specs.declared.Range.{Range}
 use Rattle.range.specs.Range.{insideOf, clearOf, pageSize}
+use Rattle.range.specs.Pairs.{rangesOf}
 use Rattle.rules.specs.Tests.{every, any, filter}
-use Rattle.pages.specs.declared.Memory.{Memory}
+use Rattle.pages.specs.declared.MemoryRanges.{MemoryRanges}
 
 -- "Each stands for 4,096 bytes"
 abbrev pub pageOf : ℕ → Range
@@ -17,13 +18,36 @@ pageOf a = record { base = a; size = pageSize }
 abbrev pub windowOf : List ℕ → ℕ → Range
 windowOf w base = record { base = base; size = length w }
 
+-- what the walk is told of the memory: where the window begins, and the ranges that the rules name
+pub record Memory : Type 0 where
+  pub window : ℕ
+  pub heap : Range
+  pub sinit : Range
+  pub reserved : List Range
+  pub dpr : Range
+  pub low : Range
+  pub high : Range
+
+-- the reserved ranges are lent beside the others, as numbers
+abbrev pub memoryOf : MemoryRanges → List ℕ → Memory
+memoryOf m numbers =
+    record {
+      window = m .window;
+      heap = m .heap;
+      sinit = m .sinit;
+      reserved = rangesOf numbers;
+      dpr = m .dpr;
+      low = m .low;
+      high = m .high;
+    }
+
 -- "0xA0000 to 0xFFFFF"
 abbrev pub lowForbidden : Range
 lowForbidden = record { base = 0xA0000; size = 0x60000 }
 
--- "clear of 0xA0000 to 0xFFFFF, of the heap and of the module"
+-- "the hole, the heap, the module and all of these"
 abbrev pub forbidden : Memory → List Range
-forbidden m = lowForbidden ∷ m .heap ∷ m .sinit ∷ []
+forbidden m = lowForbidden ∷ m .heap ∷ m .sinit ∷ m .reserved
 
 -- "DPR, the low PMR or the high PMR"
 abbrev pub regions : Memory → List Range

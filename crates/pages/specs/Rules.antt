@@ -8,11 +8,10 @@ use Rattle.range.specs.Range.{insideOf, pageSize}
 use Rattle.rules.specs.Rules.{Rule, rule, firstFailing, answerFor}
 use Rattle.pages.specs.declared.Kind.{Kind}
 use Rattle.pages.specs.declared.Kind.the-variants.{Pointer, Directory, Page}
-use Rattle.pages.specs.declared.Memory.{Memory}
 use Rattle.pages.specs.declared.WalkAnswer.{WalkAnswer}
 use Rattle.pages.specs.declared.WalkAnswer.the-variants.{Mapped, Refused}
 use Rattle.pages.specs.Entry.{addressOf, reservedClear}
-use Rattle.pages.specs.Memory.{pageOf, windowOf, regions, allowed, protected, holding}
+use Rattle.pages.specs.Memory.{Memory, pageOf, windowOf, regions, allowed, protected, holding}
 use Rattle.pages.specs.Tables.{Found, found}
 
 -- at most "40 tables in all", "the base and directories counted"

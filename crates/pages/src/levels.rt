@@ -1,6 +1,6 @@
 // The walk: the base, then the entries of each level by rising number. Nothing is stored: each entry is found again from the tables.
 use crate::Kind;
-use crate::Memory;
+use crate::MemoryRanges;
 use crate::WalkAnswer;
 use crate::entry::address;
 use crate::entry::present;
@@ -16,10 +16,11 @@ use range::PAGE_SIZE;
 use range::Range;
 use rules::unless;
 ghost use mathlib.Core.Path.{_≡_};
-ghost use Prim.Native.Nat.{_+_, _*_, _≤_, _<_};
+ghost use mathlib.Core.List.{List};
+ghost use Prim.Native.Nat.{ℕ, _+_, _*_, _≤_, _<_};
 ghost use Rattle.rules.specs.Rules.{firstFailing};
 ghost use Rattle.pages.specs.declared.Kind.the-variants.{Directory, Page};
-ghost use Rattle.pages.specs.Memory.{windowOf};
+ghost use Rattle.pages.specs.Memory.{windowOf, memoryOf};
 ghost use Rattle.pages.specs.Tables.{entries, entryAt, levelSize, foundOne, foundFrom, foundIn};
 ghost use Rattle.pages.specs.Rules.{mostTables, afterTable, afterPage, after, follows, baseRules, ownRules, entryRules, walkOf};
 ghost use Rattle.pages.specs.Inner.{stateOf, pagesTo, Ordered, Above, Leads, Room, Tried};
@@ -70,9 +71,9 @@ fn pages_to(p: Progress, a: u64) -> Range
 }
 
 // The number of the first of a kind's own rules that fails: 18 for a table, 19 and 20 for a page.
-fn own_fault(kind: Kind, m: Memory, p: Progress, l: u64, a: u64) -> u32
+fn own_fault(kind: Kind, m: MemoryRanges, p: Progress, l: u64, a: u64) -> u32
     requires { ⌜ Above p a ⌝ }
-    ensures { λ r. ⌜ r ≡ firstFailing (ownRules kind (stateOf m p) l a) ⌝ }
+    ensures { λ r. ⌜ ((reserved : List ℕ) → r ≡ firstFailing (ownRules kind (stateOf (memoryOf m reserved) p) l a)) ⌝ }
 {
     match kind {
         Kind::Pointer => unless(p.tables < MOST_TABLES, 18, 0),
@@ -86,9 +87,17 @@ fn own_fault(kind: Kind, m: Memory, p: Progress, l: u64, a: u64) -> u32
 }
 
 // The number of the first rule that a present entry breaks, 0 where it breaks none. A page's range is formed only above the last address.
-fn entry_fault(kind: Kind, w: &[u8], m: Memory, p: Progress, l: u64, e: u64) -> u32
+fn entry_fault(
+    kind: Kind,
+    w: &[u8],
+    m: MemoryRanges,
+    reserved: &[u64],
+    p: Progress,
+    l: u64,
+    e: u64,
+) -> u32
     requires { ⌜ Ordered p ⌝ }
-    ensures { λ r. ⌜ r ≡ firstFailing (entryRules kind (windowOf (now (w .entry)) (m .window)) m (stateOf m p) l e) ⌝ }
+    ensures { λ r. ⌜ r ≡ firstFailing (entryRules kind (windowOf (now (w .entry)) (m .window)) (memoryOf m (now (reserved .entry))) (stateOf (memoryOf m (now (reserved .entry))) p) l e) ⌝ }
 {
     if !reserved_clear(kind, e) {
         return 14;
@@ -100,17 +109,17 @@ fn entry_fault(kind: Kind, w: &[u8], m: Memory, p: Progress, l: u64, e: u64) -> 
     if !(p.last < a) {
         return 16;
     }
-    if !is_allowed(m, a) {
+    if !is_allowed(m, reserved, a) {
         return 17;
     }
     own_fault(kind, m, p, l, a)
 }
 
 // The number of the first rule that the base breaks, 0 where it breaks none.
-fn base_fault(w: &[u8], m: Memory, t: u64) -> u32
-    ensures { λ r. ⌜ r ≡ firstFailing (baseRules (windowOf (now (w .entry)) (m .window)) m t) ⌝ }
+fn base_fault(w: &[u8], m: MemoryRanges, reserved: &[u64], t: u64) -> u32
+    ensures { λ r. ⌜ r ≡ firstFailing (baseRules (windowOf (now (w .entry)) (m .window)) (memoryOf m (now (reserved .entry))) t) ⌝ }
 {
-    let forbidden = unless(is_allowed(m, t), 17, 0);
+    let forbidden = unless(is_allowed(m, reserved, t), 17, 0);
     let place = unless(in_window(w, m.window, t), 15, forbidden);
     unless(t % PAGE_SIZE == 0, 14, place)
 }
@@ -159,9 +168,9 @@ fn after_entry(kind: Kind, p: Progress, l: u64, a: u64) -> Progress
 }
 
 // One entry of a level. Nothing more is tried after a rule has failed.
-fn step(kind: Kind, w: &[u8], m: Memory, r: Run, l: u64, e: u64) -> Run
+fn step(kind: Kind, w: &[u8], m: MemoryRanges, reserved: &[u64], r: Run, l: u64, e: u64) -> Run
     requires { ⌜ Ordered (r .progress) × (l < levelSize Page) ⌝ }
-    ensures { λ o. ⌜ Tried (windowOf (now (w .entry)) (m .window)) m r o (foundOne kind l e) ⌝ }
+    ensures { λ o. ⌜ Tried (windowOf (now (w .entry)) (m .window)) (memoryOf m (now (reserved .entry))) r o (foundOne kind l e) ⌝ }
 {
     if r.number != 0 {
         return r;
@@ -170,7 +179,7 @@ fn step(kind: Kind, w: &[u8], m: Memory, r: Run, l: u64, e: u64) -> Run
         return r;
     }
     let progress = r.progress;
-    let number = entry_fault(kind, w, m, progress, l, e);
+    let number = entry_fault(kind, w, m, reserved, progress, l, e);
     if number != 0 {
         return Run { number, progress };
     }
@@ -182,23 +191,40 @@ fn step(kind: Kind, w: &[u8], m: Memory, r: Run, l: u64, e: u64) -> Run
 }
 
 // n entries of a level, from number l on.
-fn span(kind: Kind, w: &[u8], m: Memory, t: u64, r: Run, l: u64, n: u64) -> Run
+fn span(
+    kind: Kind,
+    w: &[u8],
+    m: MemoryRanges,
+    reserved: &[u64],
+    t: u64,
+    r: Run,
+    l: u64,
+    n: u64,
+) -> Run
     requires { ⌜ Ordered (r .progress) × (l + n ≤ levelSize Page) ⌝ }
-    ensures { λ o. ⌜ Tried (windowOf (now (w .entry)) (m .window)) m r o (foundFrom kind (entryAt kind (now (w .entry)) (m .window) t) l n) ⌝ }
+    ensures { λ o. ⌜ Tried (windowOf (now (w .entry)) (m .window)) (memoryOf m (now (reserved .entry))) r o (foundFrom kind (entryAt kind (now (w .entry)) (m .window) t) l n) ⌝ }
 {
     let mut run = r;
     let mut i: u64 = 0;
     while i < n {
-        run = step(kind, w, m, run, l + i, entry(kind, w, m.window, t, l + i));
+        run = step(
+            kind,
+            w,
+            m,
+            reserved,
+            run,
+            l + i,
+            entry(kind, w, m.window, t, l + i),
+        );
         i += 1;
     }
     run
 }
 
 // The pages of the directory entry d. There are none where the entry is not present.
-fn table(w: &[u8], m: Memory, t: u64, r: Run, d: u64) -> Run
+fn table(w: &[u8], m: MemoryRanges, reserved: &[u64], t: u64, r: Run, d: u64) -> Run
     requires { ⌜ Ordered (r .progress) × (d < levelSize Directory) ⌝ }
-    ensures { λ o. ⌜ Tried (windowOf (now (w .entry)) (m .window)) m r o (foundFrom Page (entryAt Page (now (w .entry)) (m .window) t) (entries * d) entries) ⌝ }
+    ensures { λ o. ⌜ Tried (windowOf (now (w .entry)) (m .window)) (memoryOf m (now (reserved .entry))) r o (foundFrom Page (entryAt Page (now (w .entry)) (m .window) t) (entries * d) entries) ⌝ }
 {
     if r.number != 0 {
         return r;
@@ -206,40 +232,40 @@ fn table(w: &[u8], m: Memory, t: u64, r: Run, d: u64) -> Run
     if !present(directory(w, m.window, t, d)) {
         return r;
     }
-    span(Kind::Page, w, m, t, r, ENTRIES * d, ENTRIES)
+    span(Kind::Page, w, m, reserved, t, r, ENTRIES * d, ENTRIES)
 }
 
 // All pages.
-fn pages(w: &[u8], m: Memory, t: u64, r: Run) -> Run
+fn pages(w: &[u8], m: MemoryRanges, reserved: &[u64], t: u64, r: Run) -> Run
     requires { ⌜ Ordered (r .progress) ⌝ }
-    ensures { λ o. ⌜ Tried (windowOf (now (w .entry)) (m .window)) m r o (foundIn Page (now (w .entry)) (m .window) t) ⌝ }
+    ensures { λ o. ⌜ Tried (windowOf (now (w .entry)) (m .window)) (memoryOf m (now (reserved .entry))) r o (foundIn Page (now (w .entry)) (m .window) t) ⌝ }
 {
     let mut run = r;
     let mut d: u64 = 0;
     while d < DIRECTORIES {
-        run = table(w, m, t, run, d);
+        run = table(w, m, reserved, t, run, d);
         d += 1;
     }
     run
 }
 
 // All entries of a level.
-fn level(kind: Kind, w: &[u8], m: Memory, t: u64, r: Run) -> Run
+fn level(kind: Kind, w: &[u8], m: MemoryRanges, reserved: &[u64], t: u64, r: Run) -> Run
     requires { ⌜ Ordered (r .progress) ⌝ }
-    ensures { λ o. ⌜ Tried (windowOf (now (w .entry)) (m .window)) m r o (foundIn kind (now (w .entry)) (m .window) t) ⌝ }
+    ensures { λ o. ⌜ Tried (windowOf (now (w .entry)) (m .window)) (memoryOf m (now (reserved .entry))) r o (foundIn kind (now (w .entry)) (m .window) t) ⌝ }
 {
     match kind {
-        Kind::Pointer => span(kind, w, m, t, r, 0, POINTERS),
-        Kind::Directory => span(kind, w, m, t, r, 0, DIRECTORIES),
-        Kind::Page => pages(w, m, t, r),
+        Kind::Pointer => span(kind, w, m, reserved, t, r, 0, POINTERS),
+        Kind::Directory => span(kind, w, m, reserved, t, r, 0, DIRECTORIES),
+        Kind::Page => pages(w, m, reserved, t, r),
     }
 }
 
 // The walk of the window w from the table base t: all directory entries come before the first page.
-pub fn walk(w: &[u8], m: Memory, t: u64) -> WalkAnswer
-    ensures { λ r. ⌜ r ≡ walkOf (now (w .entry)) m t ⌝ }
+pub fn walk(w: &[u8], m: MemoryRanges, reserved: &[u64], t: u64) -> WalkAnswer
+    ensures { λ r. ⌜ r ≡ walkOf (now (w .entry)) (memoryOf m (now (reserved .entry))) t ⌝ }
 {
-    let number = base_fault(w, m, t);
+    let number = base_fault(w, m, reserved, t);
     let none = Range { base: t, size: 0 };
     let progress = Progress {
         last: t,
@@ -249,9 +275,9 @@ pub fn walk(w: &[u8], m: Memory, t: u64) -> WalkAnswer
         pages: none,
     };
     let start = Run { number, progress };
-    let pointers = level(Kind::Pointer, w, m, t, start);
-    let directories = level(Kind::Directory, w, m, t, pointers);
-    let end = level(Kind::Page, w, m, t, directories);
+    let pointers = level(Kind::Pointer, w, m, reserved, t, start);
+    let directories = level(Kind::Directory, w, m, reserved, t, pointers);
+    let end = level(Kind::Page, w, m, reserved, t, directories);
     if end.number != 0 {
         return WalkAnswer::Refused(end.number);
     }

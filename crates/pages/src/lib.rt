@@ -16,8 +16,8 @@ pub enum Kind {
     Page,
 }
 
-// Where the window begins, and the ranges of memory that the rules name.
-pub struct Memory {
+// Where the window begins, and the ranges of memory that the rules name, but for those that the platform reserves: these are lent beside it, as numbers.
+pub struct MemoryRanges {
     pub window: u64,
     pub heap: Range,
     pub sinit: Range,

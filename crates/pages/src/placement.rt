@@ -1,11 +1,14 @@
 // What a page of memory is tried for: inside the window, clear of the forbidden ranges; and whether a region holds a range of pages.
-use crate::Memory;
+use crate::MemoryRanges;
+use range::Condition;
 use range::PAGE_SIZE;
 use range::Range;
+ghost use Prim.Native.Nat.{ℕ};
 ghost use mathlib.Core.Path.{_≡_};
+ghost use mathlib.Core.List.{List};
 ghost use Rattle.range.specs.Range.{insideOf};
 ghost use Rattle.rules.specs.Tests.{any};
-ghost use Rattle.pages.specs.Memory.{pageOf, windowOf, regions, allowed};
+ghost use Rattle.pages.specs.Memory.{pageOf, windowOf, memoryOf, regions, allowed};
 
 // The forbidden range below 1 MiB, 0xA0000 to 0xFFFFF.
 const LOW_BASE: u64 = 0xA0000;
@@ -27,9 +30,9 @@ pub(crate) fn in_window(w: &[u8], base: u64, a: u64) -> bool
     range::inside(page, window)
 }
 
-// Rule 17: clear of the forbidden range below 1 MiB, of the heap and of the module.
-pub(crate) fn is_allowed(m: Memory, a: u64) -> bool
-    ensures { λ r. ⌜ r ≡ allowed m a ⌝ }
+// Rule 17: clear of the forbidden range below 1 MiB, of the heap, of the module and of the reserved ranges.
+pub(crate) fn is_allowed(m: MemoryRanges, reserved: &[u64], a: u64) -> bool
+    ensures { λ r. ⌜ r ≡ allowed (memoryOf m (now (reserved .entry))) a ⌝ }
 {
     let page = Range {
         base: a,
@@ -39,12 +42,14 @@ pub(crate) fn is_allowed(m: Memory, a: u64) -> bool
         base: LOW_BASE,
         size: LOW_SIZE,
     };
-    range::clear(page, low) && (range::clear(page, m.heap) && range::clear(page, m.sinit))
+    range::clear(page, low)
+        && (range::clear(page, m.heap)
+            && (range::clear(page, m.sinit) && range::all_meet(Condition::ClearOf(page), reserved)))
 }
 
 // Rule 20, of the range from the first page to this one: wholly in DPR, in the low PMR or in the high PMR.
-pub(crate) fn is_protected(m: Memory, pages: Range) -> bool
-    ensures { λ r. ⌜ r ≡ any (insideOf pages) (regions m) ⌝ }
+pub(crate) fn is_protected(m: MemoryRanges, pages: Range) -> bool
+    ensures { λ r. ⌜ ((reserved : List ℕ) → r ≡ any (insideOf pages) (regions (memoryOf m reserved))) ⌝ }
 {
     range::inside(pages, m.dpr) || (range::inside(pages, m.low) || range::inside(pages, m.high))
 }

@@ -5,7 +5,7 @@ use lib.ListN.{length}
 use Rattle.field.specs.Number.{bytes}
 use Rattle.range.specs.declared.Range.{Range}
 use Rattle.range.specs.Range.{pageSize}
-use Rattle.pages.specs.declared.Memory.{Memory}
+use Rattle.pages.specs.Memory.{Memory}
 use Rattle.proved_cases.specs.Modules.{zeros}
 
 abbrev pub range : ℕ → ℕ → Range
@@ -30,13 +30,14 @@ windowBase = 0x101000
 unfoldable pub windowWith : List ℕ → List ℕ
 windowWith pages = tableWith (entryOf 0x102000 ∷ []) ++ (tableWith (entryOf 0x103000 ∷ []) ++ (tableWith pages ++ zeros 8192))
 
--- the window lies in DPR, clear of the heap and of the module
+-- the window lies in DPR, clear of the heap and of the module, and nothing is reserved
 abbrev pub memory : Memory
 memory =
     record {
       window = windowBase;
       heap = range 0x200000 0x10000;
       sinit = range 0x300000 0x8000;
+      reserved = [];
       dpr = range 0x100000 0x100000;
       low = range 0 0;
       high = range 0 0;

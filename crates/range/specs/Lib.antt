@@ -1,2 +1,3 @@
 -- What the contracts of the crate say.
 pub mod Range
+pub mod Pairs

@@ -1,4 +1,8 @@
 // Ranges of physical memory.
+mod pairs;
+
+pub use pairs::Condition;
+pub use pairs::all_meet;
 ghost use mathlib.Core.Path.{_≡_};
 ghost use Rattle.range.specs.Range.{insideOf, clearOf, endsBy};
 

@@ -1,20 +1,21 @@
 //! Capture files: all that a check needs in one file of at most 65,536 bytes.
 //!
-//! The mark `LPC`, 16-bit version 1, the platform in the order of [`Platform`], four 32-bit lengths (window, heap, module, record),
-//! then the four parts, and nothing after. There is no STM image in it.
+//! The mark `LPC`, a 16-bit version, the platform in the order of [`Platform`], four 32-bit lengths (window, heap, module, record), then the
+//! four parts, and nothing after. Of reserved ranges version 1 has none; version 2 has a 16-bit count and that many pairs of 64-bit base and
+//! size. There is no STM image in either.
 
-use crate::{text, Parts, Platform};
+mod layout;
+
+use crate::{text, MemoryRange, Parts, Platform, Reserved};
+pub use layout::Layout;
 use std::fmt;
 
 pub const MARK: &[u8; 3] = b"LPC";
-pub const VERSION: u16 = 1;
-/// The bytes before the parts.
-pub const HEAD: usize = 75;
 pub const MOST: usize = 65_536;
 /// How many places for pages the programs for captures lend, which is more than a capture has pages.
 pub const PLACES: usize = 4096;
-/// The names of the four parts, and where in the head their lengths stand.
-pub const PARTS: [(&str, usize); 4] = [("window", 59), ("heap", 63), ("SINIT module", 67), ("policy record", 71)];
+/// The names of the four parts.
+pub const PARTS: [&str; 4] = ["window", "heap", "SINIT module", "policy record"];
 
 /// Why parts make no capture.
 #[derive(Clone, Copy, Debug, PartialEq, Eq)]
@@ -54,7 +55,9 @@ fn number<const N: usize>(head: &[u8], at: usize) -> u64 {
     u64::from_le_bytes(bytes)
 }
 
-fn platform(head: &[u8]) -> Platform {
+fn platform(head: &[u8], layout: &Layout) -> Platform {
+    let range = |at| MemoryRange { base: number::<8>(head, at), size: number::<8>(head, at + 8) };
+    let ranges: Vec<MemoryRange> = (0..layout.ranges).map(|index| range(Layout::range(index))).collect();
     Platform {
         window_base: number::<8>(head, 5),
         heap_base: number::<8>(head, 13),
@@ -65,56 +68,60 @@ fn platform(head: &[u8]) -> Platform {
         vendor: number::<2>(head, 53) as u16,
         device: number::<2>(head, 55) as u16,
         revision: number::<2>(head, 57) as u16,
+        // There are not too many: the layout was read.
+        reserved: Reserved::new(&ranges).unwrap_or_default(),
     }
 }
 
 /// The parts and the platform of a capture.
 pub fn split(capture: &[u8]) -> Result<(Parts<'_>, Platform), Fault> {
-    let found = text::bytes(capture.len() as u64);
     if capture.len() > MOST {
-        return Err(fault("the whole file", format!("at most {MOST} bytes"), found));
+        return Err(fault("the whole file", format!("at most {MOST} bytes"), text::bytes(capture.len() as u64)));
     }
-    if capture.len() < HEAD {
-        return Err(fault("the whole file", format!("at least {HEAD} bytes, as many as stand before the parts"), found));
-    }
-    if &capture[..3] != MARK {
-        let found = format!("{:02x} {:02x} {:02x}", capture[0], capture[1], capture[2]);
-        return Err(fault("the mark, offset 0", "4c 50 43, which is LPC", found));
-    }
-    let version = number::<2>(capture, 3);
-    if version != u64::from(VERSION) {
-        return Err(fault("the version, offset 3", VERSION.to_string(), version.to_string()));
-    }
-    let lengths = PARTS.map(|(_, at)| number::<4>(capture, at));
-    let whole = HEAD as u64 + lengths.iter().sum::<u64>();
+    let layout = Layout::read(capture)?;
+    let head = layout.head();
+    let lengths = [0, 1, 2, 3].map(|part| number::<4>(capture, layout.length(part)));
+    let whole = head as u64 + lengths.iter().sum::<u64>();
     if whole != capture.len() as u64 {
         let [window, heap, sinit, record] = lengths;
         return Err(fault(
-            "the four lengths, offsets 59 to 74",
-            format!("lengths that make {} bytes with the {HEAD} of the head, as many as the file has", capture.len()),
+            format!("the four lengths, offsets {} to {}", layout.length(0), head - 1),
+            format!("lengths that make {} bytes with the {head} of the head, as many as the file has", capture.len()),
             format!("window {window}, heap {heap}, module {sinit}, record {record}, which makes {whole}"),
         ));
     }
-    let rest = &capture[HEAD..];
+    let rest = &capture[head..];
     let (window, rest) = rest.split_at(lengths[0] as usize);
     let (heap, rest) = rest.split_at(lengths[1] as usize);
     let (sinit, record) = rest.split_at(lengths[2] as usize);
-    Ok((Parts { window, heap, sinit, record, stm: &[] }, platform(capture)))
+    Ok((Parts { window, heap, sinit, record, stm: &[] }, platform(capture, &layout)))
 }
 
-/// The capture of these parts.
+/// The capture of these parts: of version 2 where the platform has reserved ranges, else of version 1.
 pub fn make(parts: &Parts, platform: &Platform) -> Result<Vec<u8>, Unfit> {
     if !parts.stm.is_empty() {
         return Err(Unfit::Stm);
     }
     let all = [parts.window, parts.heap, parts.sinit, parts.record];
-    let whole = HEAD + all.iter().map(|part| part.len()).sum::<usize>();
+    let layout = Layout::of(&platform.reserved);
+    let whole = layout.head() + all.iter().map(|part| part.len()).sum::<usize>();
     if whole > MOST {
         return Err(Unfit::Long(whole));
     }
     let mut capture = Vec::with_capacity(whole);
     capture.extend_from_slice(MARK);
-    capture.extend_from_slice(&VERSION.to_le_bytes());
+    capture.extend_from_slice(&layout.version.to_le_bytes());
+    put_platform(&mut capture, platform, &layout);
+    for part in all {
+        capture.extend_from_slice(&(part.len() as u32).to_le_bytes());
+    }
+    for part in all {
+        capture.extend_from_slice(part);
+    }
+    Ok(capture)
+}
+
+fn put_platform(capture: &mut Vec<u8>, platform: &Platform, layout: &Layout) {
     for number in [
         platform.window_base,
         platform.heap_base,
@@ -128,11 +135,10 @@ pub fn make(parts: &Parts, platform: &Platform) -> Result<Vec<u8>, Unfit> {
     for number in [platform.vendor, platform.device, platform.revision] {
         capture.extend_from_slice(&number.to_le_bytes());
     }
-    for part in all {
-        capture.extend_from_slice(&(part.len() as u32).to_le_bytes());
+    if layout.has_count() {
+        capture.extend_from_slice(&(layout.ranges as u16).to_le_bytes());
     }
-    for part in all {
-        capture.extend_from_slice(part);
+    for number in platform.reserved.as_slice().iter().flat_map(|range| [range.base, range.size]) {
+        capture.extend_from_slice(&number.to_le_bytes());
     }
-    Ok(capture)
 }

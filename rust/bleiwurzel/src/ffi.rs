@@ -1,6 +1,9 @@
 //! The functions of the static library, with slices for pointers and lengths. All that is unsafe stands here.
 
-use crate::{Answer, Parts, Platform, RECORD_FIELDS, RECORD_LENGTH};
+use crate::{Answer, Parts, Platform, Reserved, MOST_RESERVED, RECORD_FIELDS, RECORD_LENGTH};
+
+/// The reserved ranges as the library takes them: base and size in turn.
+type Pairs = [u64; 2 * MOST_RESERVED];
 
 extern "C" {
     fn bleiwurzel_check_measured(
@@ -23,6 +26,8 @@ extern "C" {
         vendor: u16,
         device: u16,
         revision: u16,
+        reserved_count: u32,
+        reserved: *const Pairs,
         pages: *mut u64,
         places: usize,
         counts: *mut [u32; 2],
@@ -66,6 +71,16 @@ extern "C" {
     ) -> bool;
 }
 
+/// How many ranges there are, and all that there is place for; those from the count on are zeros.
+fn pairs(reserved: &Reserved) -> (u32, Pairs) {
+    let ranges = reserved.as_slice();
+    let mut pairs = [0; 2 * MOST_RESERVED];
+    for (pair, range) in pairs.chunks_exact_mut(2).zip(ranges) {
+        pair.copy_from_slice(&[range.base, range.size]);
+    }
+    (ranges.len() as u32, pairs)
+}
+
 pub fn check(parts: &Parts, platform: &Platform, pages: &mut [u64]) -> Answer {
     check_measured(parts, platform, pages).0
 }
@@ -75,8 +90,9 @@ pub fn check_measured(parts: &Parts, platform: &Platform, pages: &mut [u64]) -> 
     let (mut counts, mut place) = ([0u32; 2], [0u32; 1]);
     let mut digest = [0u8; 32];
     let mut measurement = [0u8; 32];
+    let (reserved_count, reserved) = pairs(&platform.reserved);
     // SAFETY: each slice is passed with its own length; five are lent for reading and one for writing, and the borrow keeps the
-    // latter apart from them. The four arrays are this function's own.
+    // latter apart from them. The five arrays are this function's own.
     let number = unsafe {
         bleiwurzel_check_measured(
             parts.window.as_ptr(),
@@ -98,6 +114,8 @@ pub fn check_measured(parts: &Parts, platform: &Platform, pages: &mut [u64]) -> 
             platform.vendor,
             platform.device,
             platform.revision,
+            reserved_count,
+            &reserved,
             pages.as_mut_ptr(),
             pages.len(),
             &mut counts,

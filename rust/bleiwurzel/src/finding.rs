@@ -193,9 +193,16 @@ fn limits(lengths: &Lengths, platform: &Platform) -> Step<()> {
     most("window", &lengths.window, MOST_WINDOW)?;
     most("heap", &lengths.heap, MOST_HEAP)?;
     most("STM image", &lengths.stm, MOST_STM)?;
-    ends("window", base, lengths.window.bytes, "window base", "its length")?;
-    ends("heap", platform.heap_base, lengths.heap.bytes, "heap base", "its length")?;
-    ends("DPR", platform.dpr_base, platform.dpr_size, "DPR base", "DPR size")
+    ends("the window", base, lengths.window.bytes, "window base", "its length")?;
+    ends("the heap", platform.heap_base, lengths.heap.bytes, "heap base", "its length")?;
+    ends("the DPR", platform.dpr_base, platform.dpr_size, "DPR base", "DPR size")?;
+    let mut reserved = platform.reserved.as_slice().iter().enumerate();
+    reserved.try_for_each(|(i, range)| ends(&reserved_range(i), range.base, range.size, "its base", "its size"))
+}
+
+/// What a reserved range of the platform is called; they are counted from 0.
+fn reserved_range(index: usize) -> String {
+    format!("reserved range {index}")
 }
 
 fn most(name: &str, length: &Length, limit: usize) -> Step<()> {
@@ -208,7 +215,7 @@ fn ends(name: &str, base: u64, size: u64, base_name: &str, size_name: &str) -> S
     need(
         end <= u128::from(HIGHEST_END),
         1,
-        format!("end of the {name}: {base_name} plus {size_name}"),
+        format!("end of {name}: {base_name} plus {size_name}"),
         format!("at most 2^52 ({HIGHEST_END:#x})"),
         format!("{base:#x} + {size:#x} = {end:#x}"),
     )

@@ -25,9 +25,11 @@ pub mod finding;
 mod limits;
 pub mod policy;
 pub mod refusals;
+mod reserved;
 pub mod text;
 
 pub use limits::*;
+pub use reserved::{MemoryRange, Reserved, TooMany};
 use std::fmt;
 
 /// What the launch will see, lent for reading.
@@ -60,6 +62,8 @@ pub struct Platform {
     pub vendor: u16,
     pub device: u16,
     pub revision: u16,
+    /// What the firmware keeps for itself or for devices; by default no range.
+    pub reserved: Reserved,
 }
 
 /// The answer as the library gives it. On a refusal `pages` is 0, `list` 255 and the digest all zero; `place` is that of [`Refusal`], and 0 on a

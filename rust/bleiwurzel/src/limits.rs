@@ -2,7 +2,7 @@
 
 /// The bytes of a page.
 pub const PAGE_SIZE: u64 = 4096;
-/// Where window, heap, DPR and the high PMR end at the latest.
+/// Where window, heap, DPR, reserved ranges and the high PMR end at the latest.
 pub const HIGHEST_END: u64 = 1 << 52;
 /// The most bytes of a memory window.
 pub const MOST_WINDOW: usize = 128 << 20;
@@ -10,6 +10,8 @@ pub const MOST_WINDOW: usize = 128 << 20;
 pub const MOST_HEAP: usize = 1 << 20;
 /// The most bytes of an STM image.
 pub const MOST_STM: usize = 16 << 20;
+/// The most reserved ranges of a platform.
+pub const MOST_RESERVED: usize = 16;
 /// The most bytes of a SINIT module on any platform: it ends below 2^32.
 pub const MOST_MODULE: u64 = (1 << 32) - 1;
 /// The most entries of a SINIT module's chipset list.

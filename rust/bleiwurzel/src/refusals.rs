@@ -68,7 +68,8 @@ minus the window base. KiB and MiB are powers of two.
 Where the platform's numbers come from: TXT.HEAP.BASE and TXT.HEAP.SIZE (offsets 0x300 and 0x308 of the TXT registers), TXT.SINIT.BASE
 (0x270), TXT.DIDVID (0x110: vendor bits 0 to 15, device 16 to 31, revision 32 to 47), TXT.DPR (0x330: the address above its last byte in
 bits 20 to 31, its size in MiB in bits 4 to 11; newer platforms have it in PCI configuration space instead, see their data sheet). The
-ACRAM capacity is what GETSEC[PARAMETERS] reports.
+ACRAM capacity is what GETSEC[PARAMETERS] reports. The reserved ranges are those of the firmware's memory map (`/proc/iomem`, or the lines BIOS-e820 of
+the kernel's log) that are no usable memory.
 
 | No. | Meaning |
 |---|---|
@@ -129,28 +130,34 @@ pub static TEXTS: [Text; 33] = [
     Text {
         number: 1,
         name: "limits",
-        meaning: "The window base is no multiple of 4096, the window is over 128 MiB, the heap is over 1 MiB, the STM image is over 16 MiB, or \
-            base plus size of window, heap or DPR is over 2^52.",
+        meaning: "The window base is no multiple of 4096, the window is over 128 MiB, the heap is over 1 MiB, the STM image is over 16 MiB, there \
+            are over 16 reserved ranges, or base plus size of window, heap, DPR or a reserved range is over 2^52.",
         rule: "Window base mod 4096 = 0; window at most 134,217,728 bytes; heap at most 1,048,576 bytes; STM image at most 16,777,216 bytes, \
-            also where no list asks for it; window base + window length, heap base + heap length and DPR base + DPR size each at most 2^52, \
-            added without wrapping, the DPR also at size 0.",
+            also where no list asks for it; at most 16 reserved ranges; window base + window length, heap base + heap length, DPR base + DPR \
+            size and base + size of every reserved range each at most 2^52, added without wrapping, the DPR and the reserved ranges also at \
+            size 0. What a program hands over past its count of reserved ranges is not looked at.",
         causes: &[
             "A base was typed with a digit missing or too many, or decimal instead of hexadecimal.",
             "DPR top was given as DPR base, or base and size changed places.",
             "The window file is a dump of more memory than image, tables and policy file take.",
             "The heap file is a dump of the whole TXT region and not of the heap alone.",
             "The STM file is a dump of all of SMRAM or MSEG and not the STM's static image.",
+            "A program hands over every range of the firmware's memory map, and these are more than 16.",
         ],
         technician: &[
             "Compare the platform numbers that were handed over with the host's registers, digit by digit.",
             "Compare the sizes of the window file, the heap file and the STM file with the limits (`ls -l`).",
             "DPR base is the DPR's top minus its size; with no DPR give 0 for both.",
+            "If it is a reserved range, compare it with the host's memory map (`/proc/iomem`, read as root). That shows first and last byte; the size is \
+             their difference and 1 more.",
         ],
         builder: &[
             "Place image, page tables and policy file so that one window of at most 128 MiB holds all of them.",
             "Dump the window from a page boundary on.",
             "Hand over of an STM its static image alone: from the first byte of MSEG on as many bytes as StaticImageSize says, 32 bits at 2052 in \
              the STM's header.",
+            "In a program that has more than 16 reserved ranges, join those that adjoin, and leave out those outside the window, where no page may lie \
+             either.",
         ],
     },
     Text {
@@ -414,19 +421,30 @@ pub static TEXTS: [Text; 33] = [
     Text {
         number: 17,
         name: "forbidden range",
-        meaning: "A table or a page touches 0xA0000 to 0xFFFFF, the heap or the SINIT module.",
-        rule: "The 4,096 bytes of every table and page are clear of 0xA0000 to 0xFFFFF (both included), of the heap (heap base, heap length) and \
-            of the module (SINIT base, module length).",
+        meaning: "A table or a page touches 0xA0000 to 0xFFFFF, the heap, the SINIT module or a reserved range of the platform.",
+        rule: "The 4,096 bytes of every table and page are clear of 0xA0000 to 0xFFFFF (both included), of the heap (heap base, heap length), of \
+            the module (SINIT base, module length) and of every reserved range of the platform (its base and size; with size 0 it reserves \
+            nothing). Reserved ranges are counted from 0, and may overlap each other.",
         causes: &[
             "The image was loaded over the heap or the SINIT module, which the firmware placed elsewhere on this host.",
             "Heap base or SINIT base were given wrong.",
             "The loader put tables into low memory.",
+            "The image was loaded over memory that the firmware of this host keeps, for instance for ACPI tables or for a device.",
+            "The reserved ranges are those of a memory map that lists the DPR too, and the image lies in the DPR.",
         ],
         technician: &[
             "Compare heap base and SINIT base with TXT.HEAP.BASE and TXT.SINIT.BASE of this host; after a firmware update they may have moved.",
             "If they are right, the image's place collides with them on this host.",
+            "If it is a reserved range, look for its addresses in the firmware's memory map of this very host (`/proc/iomem`, read as root, or `dmesg | \
+             grep BIOS-e820`); lines that adjoin there may be one range here. If they are not reserved there, the range is another host's, or the map \
+             has changed with the firmware: take it anew, `bleiwurzel check --reserved-from FILE ..`.",
+            "If they are reserved there and are the DPR, where the image belongs, name the other ranges alone: `bleiwurzel check --reserved BASE+SIZE ..`. Else hand the \
+             range and the page to the image's builder.",
         ],
-        builder: &["Have the loader read TXT.HEAP.BASE and TXT.SINIT.BASE and place tables and image clear of both, and above 1 MiB."],
+        builder: &[
+            "Have the loader read TXT.HEAP.BASE and TXT.SINIT.BASE and place tables and image clear of both, and above 1 MiB.",
+            "Place tables and image elsewhere, in memory that the firmware's map calls usable on every host that starts the image.",
+        ],
     },
     Text {
         number: 18,
@@ -733,16 +751,21 @@ pub static TEXTS: [Text; 33] = [
     Text {
         number: 30,
         name: "capture",
-        meaning: "The file is no capture: its mark, version or lengths are wrong, or it has over 65536 bytes.",
-        rule: "A capture is the mark `LPC`, a version (16 bits at 3) of 1, the platform (six 64-bit numbers from 5, three 16-bit numbers from 53), \
-            four lengths (32 bits each from 59), then the four parts; 75 bytes plus the lengths is the file's size, at most 65,536.",
+        meaning: "The file is no capture: its mark, version, count of reserved ranges or lengths are wrong, or it has over 65536 bytes.",
+        rule: "A capture is the mark `LPC`, a version (16 bits at 3) of 1 or 2, the platform (six 64-bit numbers from 5, three 16-bit numbers from 53), \
+            four lengths (32 bits each from 59), then the four parts; 75 bytes plus the lengths is the file's size, at most 65,536. Version 2 has a \
+            count of reserved ranges (16 bits at 59, at most 16) and that many pairs of base and size (64 bits each from 61) before the \
+            lengths, which begin at 61 + 16·count; of it 77 + 16·count bytes stand before the parts.",
         causes: &[
             "Another file was given, or the transfer cut it off or changed line ends.",
             "The image is too large for a capture.",
+            "A newer program wrote the file, with a version that this one does not know.",
         ],
         technician: &[
             "Copy the file again in binary mode and compare checksums (`sha256sum FILE`).",
             "For images over 64 KiB hand over the parts instead: `bleiwurzel check --window FILE --heap FILE ..`.",
+            "If it is the version or the count of reserved ranges, and the checksums agree, have whoever sent the file make it again with the release of the \
+             tool that is used here.",
         ],
         builder: &["Write captures with `bleiwurzel capture make`."],
     },

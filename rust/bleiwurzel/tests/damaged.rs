@@ -3,9 +3,9 @@
 
 mod common;
 
-use bleiwurzel::{
-    answer, answer_capture, capture, finding, policy, Answer, Platform, MOST_HEAP, MOST_PAGES, MOST_TABLES, MOST_WINDOW,
-};
+use bleiwurzel::capture::Layout;
+use bleiwurzel::{answer, answer_capture, capture, finding, policy};
+use bleiwurzel::{Answer, Platform, Reserved, MOST_HEAP, MOST_PAGES, MOST_RESERVED, MOST_TABLES, MOST_WINDOW};
 use common::*;
 use plain_sha256::digest_in_parts;
 use std::collections::BTreeMap;
@@ -106,12 +106,33 @@ fn place_in_window(dice: &mut Dice, image: &Image) -> usize {
     .min(image.window.len() - 1)
 }
 
-/// Damages the platform, or puts heap or module on one of the first pages of the window.
+/// A page among so many of the window's first, and one bit of 64.
+fn page_and_bit(dice: &mut Dice, pages: usize) -> (u64, u64) {
+    let bit = 1 << dice.below(64);
+    (BASE + (dice.below(pages) * PAGE) as u64, bit)
+}
+
+/// Damages one of the reserved ranges, puts it on one of the first pages of the window, or leaves out it and all behind it.
+fn damage_range(dice: &mut Dice, reserved: &mut Reserved, pages: usize) {
+    let (page, bit) = page_and_bit(dice, pages);
+    let mut ranges = reserved.as_slice().to_vec();
+    let at = dice.below(ranges.len());
+    match dice.below(4) {
+        0 => ranges[at].base ^= bit,
+        1 => ranges[at].size ^= bit,
+        2 => ranges[at].base = page + dice.next() % 4096,
+        // One is left, so that there is one to damage next.
+        _ => ranges.truncate(at.max(1)),
+    }
+    *reserved = Reserved::new(&ranges).expect("no more than before");
+}
+
+/// Damages the platform, or puts heap, module or a reserved range on one of the first pages of the window.
 fn damage_platform(dice: &mut Dice, platform: &mut Platform, pages: usize) {
-    let bit = 1u64 << dice.below(64);
+    let (page, bit) = page_and_bit(dice, pages);
     let small = bit as u16;
-    let page = BASE + (dice.below(pages) * PAGE) as u64;
-    match dice.below(11) {
+    let kinds = if platform.reserved == Reserved::NONE { 11 } else { 22 };
+    match dice.below(kinds) {
         0 => platform.window_base ^= bit,
         1 => platform.heap_base ^= bit,
         2 => platform.sinit_base ^= bit,
@@ -122,7 +143,8 @@ fn damage_platform(dice: &mut Dice, platform: &mut Platform, pages: usize) {
         7 => platform.device ^= small,
         8 => platform.revision ^= small,
         9 => platform.heap_base = page + dice.next() % 4096,
-        _ => platform.sinit_base = page,
+        10 => platform.sinit_base = page,
+        _ => damage_range(dice, &mut platform.reserved, pages),
     }
 }
 
@@ -208,6 +230,50 @@ fn in_two_regions() -> Image {
     image
 }
 
+/// Sixteen reserved ranges: the free pages between tables and pages and behind them, the byte before each, and some of size 0 inside.
+fn with_ranges() -> Image {
+    let mut image = spread(BASE);
+    let at = |page: usize| image.address(page);
+    let between = [0, 2, 4, 6, 8].map(|page| (at(page), PAGE as u64));
+    let beside = [POINTERS, DIRECTORY, TABLE, ONE, TWO].map(|page| (at(page) - 1, 1));
+    let empty = [POINTERS, DIRECTORY, TABLE, ONE, TWO].map(|page| (at(page) + 0x800, 0));
+    let ranges = [&between[..], &beside, &empty, &[(at(TWO + 1), 0x2_0000)]].concat();
+    assert_eq!(ranges.len(), MOST_RESERVED);
+    image.reserve(&ranges);
+    image
+}
+
+/// Damaged ranges, now and then with another page in a table. The answers that are not those without ranges are counted.
+#[test]
+fn reserved_ranges() {
+    let mut image = with_ranges();
+    let (platform, aimed_at) = (image.platform, first_pages(&image));
+    let mut dice = Dice(18);
+    let mut pages = vec![UNTOUCHED; MOST_PAGES];
+    let mut counts: BTreeMap<u32, usize> = BTreeMap::new();
+    for turn in 0..6000 {
+        let mut damage = Damage::new();
+        if dice.below(4) == 0 {
+            damage.name_a_page(&mut dice, &mut image);
+        }
+        for _ in 0..=dice.below(3) {
+            damage_range(&mut dice, &mut image.platform.reserved, aimed_at);
+        }
+        let given = answer(&image.parts(), &image.platform, &mut pages);
+        judge(&given, &pages, finding::first(&image.parts(), &image.platform, MOST_PAGES), &format!("damage {turn}"));
+        pages[..given.pages as usize].fill(UNTOUCHED);
+        let without = Platform { reserved: Reserved::NONE, ..image.platform };
+        if answer(&image.parts(), &without, &mut pages).number != given.number {
+            *counts.entry(given.number).or_default() += 1;
+        }
+        pages.fill(UNTOUCHED);
+        damage.repair(&mut image.window);
+        image.platform = platform;
+    }
+    assert_eq!(counts.keys().copied().collect::<Vec<u32>>(), [1, 17], "{counts:?}");
+    assert!(counts.values().all(|count| *count > 500), "{counts:?}");
+}
+
 #[test]
 fn images() {
     let small = image(&Shape::default()).window.len();
@@ -229,7 +295,8 @@ fn images() {
     damage_image("three pages in two regions", in_two_regions(), 3000, 14, &mut counts);
     let newer = Image { sinit: module_with(HEADER_3_0, 960), ..of(plain) };
     damage_image("two pages, module header 3.0", newer, 6000, 16, &mut counts);
-    assert_eq!(counts.values().sum::<usize>(), 35_120);
+    damage_image("two pages, reserved ranges", with_ranges(), 3000, 17, &mut counts);
+    assert_eq!(counts.values().sum::<usize>(), 38_120);
     let met: Vec<u32> = counts.keys().copied().collect();
     let expected: Vec<u32> = (0..=29).filter(|number| *number != 13).collect();
     assert_eq!(met, expected, "every number but 13 is met: {counts:?}");
@@ -267,10 +334,11 @@ fn policy_files_with_their_hash() {
 /// A place in a capture: mostly in its head or where the parts have their fields.
 fn place_in_capture(dice: &mut Dice, capture: &[u8]) -> usize {
     let length = capture.len();
+    let head = Layout::read(capture).unwrap_or(Layout::PLAIN).head();
     match dice.below(4) {
-        0 => dice.below(75),
+        0 => dice.below(head),
         1 => length - 1 - dice.below(1100.min(length)),
-        2 => 75 + PAGE * dice.below(8) + dice.below(64),
+        2 => head + PAGE * dice.below(8) + dice.below(64),
         _ => dice.below(length),
     }
     .min(length - 1)

@@ -75,6 +75,52 @@ fn the_hole_is_printed_once() {
     assert_eq!(expected.matches("0xa0000").count(), 1, "{expected}");
 }
 
+/// What is found of an image of the pages 0x103000 and 0x104000 with these reserved ranges: place, what was expected, and what was found.
+fn of_ranges(number: u32, ranges: &[(u64, u64)]) -> [String; 3] {
+    let mut image = image(&Shape::default());
+    image.reserve(ranges);
+    let finding = finding::find(refused(number), &image.parts(), &image.platform, MOST_PAGES).expect("a finding");
+    assert_eq!(finding.notes, [] as [String; 0]);
+    [finding.place, finding.expected, finding.found]
+}
+
+/// The first range that a page touches is named by its index, which counts those of size 0 too.
+#[test]
+fn a_page_in_a_reserved_range() {
+    let place = "entry 1 of the page table at 0x102000 (physical 0x102008, window offset 0x2008), which maps linear 0x1000";
+    let page = "0x104000 to 0x104fff";
+    let ranges = [(0x104800, 0), (0x3000_0000, 0x1000), (0x105000, 1), (0x104fff, 0x2000), (0x104000, 1)];
+    let expected = "clear of reserved range 3, 0x104fff to 0x106ffe";
+    assert_eq!(of_ranges(17, &ranges), [place, expected, page]);
+    let most = [(0x104000, (1 << 52) - 0x104000)];
+    assert_eq!(of_ranges(17, &most), [place, "clear of reserved range 0, 0x104000 to 0xfffffffffffff", page]);
+    let base = "page table base, offset 8 in OsSinitData (heap offset 0x20)";
+    let expected = "clear of reserved range 0, 0x100fff to 0x100fff";
+    assert_eq!(of_ranges(17, &[(0x100fff, 1)]), [base, expected, "0x100000 to 0x100fff"]);
+}
+
+/// What rule 17 had before comes first.
+#[test]
+fn a_page_in_the_heap_and_in_a_reserved_range() {
+    let mut image = image(&Shape::default());
+    image.platform.heap_base = 0x104000;
+    image.reserve(&[(0x104000, 0x1000)]);
+    let finding = finding::first(&image.parts(), &image.platform, MOST_PAGES).expect("a refusal");
+    assert_eq!((finding.number, finding.expected.as_str()), (17, "clear of the heap, 0x104000 to 0x10407b"));
+}
+
+#[test]
+fn the_end_of_a_reserved_range() {
+    let (place, expected) = ("end of reserved range 2: its base plus its size", "at most 2^52 (0x10000000000000)");
+    for (base, size, found) in [
+        (1 << 52, 1, "0x10000000000000 + 0x1 = 0x10000000000001"),
+        ((1 << 52) + 1, 0, "0x10000000000001 + 0x0 = 0x10000000000001"),
+        (u64::MAX, u64::MAX, "0xffffffffffffffff + 0xffffffffffffffff = 0x1fffffffffffffffe"),
+    ] {
+        assert_eq!(of_ranges(1, &[(0, 0), (1 << 52, 0), (base, size)]), [place, expected, found]);
+    }
+}
+
 const NO_HIGH: &str = "PMR high (of size 0) does not hold it";
 
 /// Holds what is said of 20, for three pages from 0x103000 on with this DPR and low PMR (base and size), to: which page, what was expected of it,

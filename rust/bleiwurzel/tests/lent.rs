@@ -1,13 +1,13 @@
 //! Cases with an STM image, which no capture carries: the answer of the library, and of the finding. An independent model of the rules made the
 //! cases and their outputs once.
 //!
-//! A case is: the mark `LPX`; 32-bit number of places lent for pages; the platform as in a capture; 16-bit count of reserved ranges and 16 pairs
-//! of 64-bit base and size, of which there are none here; five 32-bit lengths (window, heap, module, record, STM image); the five parts.
+//! A case is: the mark `LPX`; 32-bit number of places lent for pages; the platform as in a capture; 16-bit count of reserved ranges and always 16
+//! pairs of 64-bit base and size; five 32-bit lengths (window, heap, module, record, STM image); the five parts. No stored case has ranges.
 
 mod common;
 
-use bleiwurzel::{answer, finding, Parts, Platform};
-use common::{hold_place, outputs, printed, UNTOUCHED};
+use bleiwurzel::{answer, finding, MemoryRange, Parts, Platform, Reserved, MOST_RESERVED};
+use common::{hold_place, outputs, printed, put, UNTOUCHED};
 use std::path::{Path, PathBuf};
 
 fn folder() -> PathBuf {
@@ -31,7 +31,10 @@ impl<'a> Case<'a> {
     fn platform(&mut self) -> Platform {
         let [window_base, heap_base, sinit_base, dpr_base, dpr_size, acram_capacity] = [(); 6].map(|()| self.number(8));
         let [vendor, device, revision] = [(); 3].map(|()| self.number(2) as u16);
-        Platform { window_base, heap_base, sinit_base, dpr_base, dpr_size, acram_capacity, vendor, device, revision }
+        let count = self.number(2) as usize;
+        let ranges = [(); MOST_RESERVED].map(|()| MemoryRange { base: self.number(8), size: self.number(8) });
+        let reserved = Reserved::new(&ranges[..count]).expect("at most 16 ranges");
+        Platform { window_base, heap_base, sinit_base, dpr_base, dpr_size, acram_capacity, vendor, device, revision, reserved }
     }
 
     fn parts(&mut self) -> Parts<'a> {
@@ -47,8 +50,6 @@ fn split(bytes: &[u8]) -> (Parts<'_>, Platform, usize) {
     assert_eq!(case.bytes(3), b"LPX");
     let places = case.number(4) as usize;
     let platform = case.platform();
-    assert_eq!(case.number(2), 0, "reserved ranges");
-    case.bytes(16 * 16);
     let parts = case.parts();
     assert!(case.0.is_empty(), "bytes behind the parts");
     (parts, platform, places)
@@ -92,5 +93,21 @@ fn a_signed_list_needs_its_stm_image() {
     let shorter = &parts.stm[..parts.stm.len() - 1];
     for (name, stm) in [("no STM image", &[][..]), ("another first byte", &other), ("a byte less", shorter)] {
         hold(name, &Parts { stm, ..parts }, &platform, places, "refused 29\n");
+    }
+}
+
+/// A range in the last byte of the image, as the first or the last of a case's sixteen; past the count it is not read.
+#[test]
+fn a_reserved_range_counts() {
+    let (name, count, ranges) = ("29-stm-signed-match.case", 61, 63);
+    let permitted = &outputs(&folder().join("expected.tsv"))[name];
+    let good = std::fs::read(folder().join(name)).expect("a case");
+    for (given, index, expected) in [(1, 0, "refused 17\n"), (16, 15, "refused 17\n"), (15, 15, permitted), (0, 0, permitted)] {
+        let mut bytes = good.clone();
+        put(&mut bytes, count, given, 2);
+        put(&mut bytes, ranges + 16 * index, 0x105fff, 8);
+        put(&mut bytes, ranges + 16 * index + 8, 1, 8);
+        let (parts, platform, places) = split(&bytes);
+        hold(&format!("range {index} of {given}"), &parts, &platform, places, expected);
     }
 }

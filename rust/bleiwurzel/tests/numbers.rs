@@ -6,6 +6,7 @@
 
 mod common;
 
+use bleiwurzel::capture::Layout;
 use bleiwurzel::finding::{Edition, EDITIONS};
 use bleiwurzel::*;
 use common::top;
@@ -63,6 +64,26 @@ const NUMBERS: &[Number] = &[
         rattle: &["MOST_STM", "mostStm"],
         macros: &["BLEIWURZEL_MOST_STM"],
         said: |n| vec![format!("the STM image is over {} MiB", n >> 20)],
+    },
+    Number {
+        value: MOST_RESERVED as u64,
+        rattle: &["MOST_RESERVED", "mostReserved"],
+        macros: &["BLEIWURZEL_MOST_RESERVED"],
+        said: |n| {
+            vec![
+                format!("there are over {n} reserved ranges,"),
+                format!("base and size in turn of {n} reserved ranges"),
+                format!("a reserved_count over {n} is refused with 1"),
+                format!("count of reserved ranges, at most {n},"),
+            ]
+        },
+    },
+    // base and size of each
+    Number {
+        value: 2 * MOST_RESERVED as u64,
+        rattle: &["RESERVED_NUMBERS"],
+        macros: &[],
+        said: |n| vec![format!("reserved, always {n} numbers,"), format!("const uint64_t reserved[{n}],")],
     },
     Number { value: MOST_MODULE, rattle: &["HIGHEST_MODULE_END", "highestModuleEnd"], macros: &[], said: nothing },
     Number { value: MOST_CHIPSETS, rattle: &["sinit::MOST_ENTRIES", "sinit::mostEntries"], macros: &[], said: nothing },
@@ -163,9 +184,8 @@ const NUMBERS: &[Number] = &[
         macros: &["BLEIWURZEL_MOST_CAPTURE"],
         said: |n| vec![format!("it has over {n} bytes"), format!("at most {n} in all")],
     },
-    Number { value: capture::HEAD as u64, rattle: &[], macros: &[], said: |n| vec![format!("{n} bytes before the parts")] },
     Number {
-        value: capture::PARTS[0].1 as u64,
+        value: Layout::PLAIN.length(0) as u64,
         rattle: &["capture::REVISION_END", "capture::revisionEnd"],
         macros: &[],
         said: nothing,
@@ -386,6 +406,35 @@ fn the_texts_say_the_same_limits() {
         ("docs/REFUSALS.md", format!("at most {tables} pages; the entry that names the {}st is refused.", tables + 1)),
         ("docs/REFUSALS.md", format!("- {pages} pages need {} page tables,", MOST_PAGES / 512)),
         ("rust/bleiwurzel/src/cli/help.rs", format!("at most {window} MiB:")),
+        ("README.md", format!("up to {MOST_RESERVED} reserved ranges")),
+        ("README.md", format!("| reserved ranges | {MOST_RESERVED}, each ending at or below 2^52")),
+        ("docs/REFUSALS.md", format!("at most {MOST_RESERVED} reserved ranges;")),
+        ("docs/REFUSALS.md", format!("and these are more than {MOST_RESERVED}.")),
+        ("docs/REFUSALS.md", format!("In a program that has more than {MOST_RESERVED} reserved ranges,")),
+        ("rust/bleiwurzel/src/cli/help.rs", format!("up to {MOST_RESERVED} ranges in all.")),
+    ];
+    said.iter().for_each(|(file, said)| hold_said(file, said));
+}
+
+/// Where the fields of a capture stand in each version, as sentences of several texts say it.
+#[test]
+fn the_texts_say_the_same_layout_of_captures() {
+    let version_2 = |ranges| Layout { version: 2, ranges };
+    let (count, head, head_2) = (Layout::PLAIN.length(0), Layout::PLAIN.head(), version_2(0).head());
+    let (first, range) = (version_2(0).length(0), version_2(1).head() - head_2);
+    let said = [
+        ("docs/REFUSALS.md", format!("four lengths (32 bits each from {count}),")),
+        ("docs/REFUSALS.md", format!("{head} bytes plus the lengths is the file's size, at most {}.", grouped(capture::MOST))),
+        ("docs/REFUSALS.md", format!("count of reserved ranges (16 bits at {count}, at most {MOST_RESERVED})")),
+        ("docs/REFUSALS.md", format!("pairs of base and size (64 bits each from {first})")),
+        (
+            "docs/REFUSALS.md",
+            format!("which begin at {first} + {range}·count; of it {head_2} + {range}·count bytes stand before the parts."),
+        ),
+        ("include/bleiwurzel.h", format!("{head} bytes before the parts, at most {} in all", capture::MOST)),
+        ("include/bleiwurzel.h", format!("{head_2} bytes and {range} for each range before the parts")),
+        ("rust/bleiwurzel/src/cli/help.rs", format!("without them version {}. {head} bytes\n", Layout::PLAIN.version)),
+        ("rust/bleiwurzel/src/cli/help.rs", format!("reserved ranges take {} bytes more and {range}\nfor each.", head_2 - head)),
     ];
     said.iter().for_each(|(file, said)| hold_said(file, said));
 }

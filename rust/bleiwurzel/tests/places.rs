@@ -1,10 +1,13 @@
 //! The place of a 27 over all stored policy files, captures and damaged copies: by the reader, by the functions for C and for Rust, and worked out
 //! by itself; and the finding, which must have a field to name at each.
 
+#[path = "common/by_c.rs"]
+mod by_c;
 mod common;
 
-use bleiwurzel::{answer, answer_capture, capture, finding, policy, Parts, Platform, Refusal};
-use common::{captures, place, policy_bytes, policy_files};
+use bleiwurzel::{answer, answer_capture, capture, finding, policy, Refusal};
+use by_c::by_c;
+use common::{captures, place, policy_bytes, policy_files, reserved_numbers};
 use std::collections::BTreeSet;
 
 /// The refusal of a string, worked out by itself.
@@ -68,70 +71,6 @@ fn a_finding_of_another_refusal() {
     }
 }
 
-extern "C" {
-    fn bleiwurzel_check(
-        window: *const u8,
-        window_length: usize,
-        heap: *const u8,
-        heap_length: usize,
-        sinit: *const u8,
-        sinit_length: usize,
-        record: *const u8,
-        record_length: usize,
-        stm: *const u8,
-        stm_length: usize,
-        window_base: u64,
-        heap_base: u64,
-        sinit_base: u64,
-        dpr_base: u64,
-        dpr_size: u64,
-        acram_capacity: u64,
-        vendor: u16,
-        device: u16,
-        revision: u16,
-        pages: *mut u64,
-        places: usize,
-        counts: *mut [u32; 2],
-        place: *mut [u32; 1],
-        digest: *mut [u8; 32],
-    ) -> u32;
-}
-
-/// Number and place by the function that the C header calls, which the crate does not.
-fn by_c(parts: &Parts, platform: &Platform) -> (u32, u32) {
-    let (mut pages, mut counts, mut place, mut digest) = (vec![0; capture::PLACES], [0; 2], [u32::MAX], [0; 32]);
-    // SAFETY: as in the crate: each slice has its own length, and what is written is this function's own.
-    let number = unsafe {
-        bleiwurzel_check(
-            parts.window.as_ptr(),
-            parts.window.len(),
-            parts.heap.as_ptr(),
-            parts.heap.len(),
-            parts.sinit.as_ptr(),
-            parts.sinit.len(),
-            parts.record.as_ptr(),
-            parts.record.len(),
-            parts.stm.as_ptr(),
-            parts.stm.len(),
-            platform.window_base,
-            platform.heap_base,
-            platform.sinit_base,
-            platform.dpr_base,
-            platform.dpr_size,
-            platform.acram_capacity,
-            platform.vendor,
-            platform.device,
-            platform.revision,
-            pages.as_mut_ptr(),
-            pages.len(),
-            &mut counts,
-            &mut place,
-            &mut digest,
-        )
-    };
-    (number, place[0])
-}
-
 /// Every stored capture has the same number and place by all functions, and a 27 the place that the reader has for the policy file alone.
 #[test]
 fn the_same_place_by_all_functions() {
@@ -144,7 +83,9 @@ fn the_same_place_by_all_functions() {
         };
         let by_rust = answer(&parts, &platform, &mut vec![0; capture::PLACES]);
         assert_eq!((by_rust.number, by_rust.place), (given.number, given.place), "{name}");
-        assert_eq!(by_c(&parts, &platform), (given.number, given.place), "{name}");
+        let (count, reserved) = reserved_numbers(&platform.reserved);
+        let by_c = by_c(&parts, &platform, count, &reserved, capture::PLACES);
+        assert_eq!((by_c.number, by_c.place), (given.number, [given.place]), "{name}");
         if given.number == 27 {
             let alone = policy::read(policy_bytes(&parts, &platform));
             assert_eq!(alone, Err(Refusal { number: 27, place: given.place }), "{name}");

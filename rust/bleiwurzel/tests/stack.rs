@@ -6,7 +6,7 @@
 
 mod common;
 
-use bleiwurzel::{capture, policy, MOST_PAGES, MOST_TABLES, MOST_WINDOW, RECORD_FIELDS, RECORD_LENGTH};
+use bleiwurzel::{capture, policy, MOST_PAGES, MOST_RESERVED, MOST_TABLES, MOST_WINDOW, RECORD_FIELDS, RECORD_LENGTH};
 use common::*;
 use std::arch::asm;
 
@@ -89,7 +89,7 @@ fn the_digest() {
 
 #[test]
 fn the_check_of_every_stored_capture() {
-    const AT_MOST: usize = 4240;
+    const AT_MOST: usize = 5264;
     let mut stack = Box::new(Stack([0; SIZE]));
     let mut most = 0;
     for (name, bytes) in captures() {
@@ -123,6 +123,8 @@ fn check_takes(stack: &mut Stack, image: &Image) -> usize {
     arguments.extend(numbers.map(|number| number as usize));
     arguments.push(platform.acram_capacity as usize);
     arguments.extend(chipset.map(usize::from));
+    let (count, reserved) = reserved_numbers(&platform.reserved);
+    arguments.extend([count as usize, reserved.as_ptr() as usize]);
     arguments.extend([pages.as_mut_ptr() as usize, pages.len()]);
     arguments.extend([&mut counts as *mut _ as usize, &mut place as *mut _ as usize, &mut digest as *mut _ as usize]);
     // SAFETY: as above.
@@ -132,15 +134,16 @@ fn check_takes(stack: &mut Stack, image: &Image) -> usize {
     taken
 }
 
-/// Two pages, and as many pages, tables and bytes of the window as there may be.
+/// Two pages, and as many pages, tables, reserved ranges and bytes of the window as there may be.
 #[test]
 fn the_check_of_a_small_and_of_the_largest_image() {
-    const AT_MOST: usize = 2240;
+    const AT_MOST: usize = 3056;
     let mut stack = Box::new(Stack([0; SIZE]));
     let small = check_takes(&mut stack, &image(&Shape::default()));
     let full = Shape { pages: MOST_PAGES, empty_tables: MOST_TABLES - MOST_PAGES / 512 - 2, ..Shape::default() };
     let spare = MOST_WINDOW - (MOST_PAGES + MOST_TABLES) * PAGE;
-    let large = image(&Shape { spare, ..full });
+    let mut large = image(&Shape { spare, ..full });
+    large.reserve(&[(0x3000_0000, 0x1000); MOST_RESERVED]);
     assert_eq!((large.window.len(), large.content), (MOST_WINDOW, MOST_TABLES), "all limits are reached");
     let large = check_takes(&mut stack, &large);
     println!("the check takes {small} bytes of stack for two pages, {large} for {MOST_PAGES}");

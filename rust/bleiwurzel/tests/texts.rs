@@ -225,5 +225,5 @@ fn lengths_of_what_is_lent() {
             None => bracketed += usize::from(name.ends_with(']')),
         }
     }
-    assert!(counted > 20 && bracketed == 1, "{counted} with a length, {bracketed} with brackets");
+    assert!(counted > 20 && bracketed == 3, "{counted} with a length, {bracketed} with brackets");
 }

@@ -1,6 +1,6 @@
 -- `check` meets its contract: 30 for what is no capture, and else the answer for its parts.
 use mathlib.Core.Path.{_∙_}
-use Rattle.capture.proofs.Conditions.{no-capture, a-capture, whole}
+use Rattle.capture.proofs.Conditions.{no-capture, a-capture, counted, whole}
 use native.Mathlib.Omega.{arith}
 use borrow.Author.Needs.{needs}
 use Rattle.capture.proofs.check.Statement.{statement}
@@ -68,7 +68,9 @@ slice-aggregate-check : tie.Need-slice-aggregate-check
 slice-aggregate-check c = search needs
 
 platform-requires : tie.Need-platform-requires
-platform-requires c κs = search needs
+platform-requires c κs =
+    let k = c .before .before .before .before .before in
+    counted _ _ (k .before .before .holds .ensures) (k .before .if1 .left)
 
 check-requires : tie.Need-check-requires
 check-requires c κs = search needs

@@ -4,6 +4,9 @@ use borrow.Author.Needs.{needs}
 use Rattle.capture.proofs.offsets_in.Statement.{statement}
 use Rattle.capture.proofs.offsets_in.Tie as tie
 
+lengths-at-requires : tie.Need-lengths-at-requires
+lengths-at-requires c κs = search needs
+
 add-window : tie.Need-add-window
 add-window c = search needs
 
@@ -47,6 +50,7 @@ returns c = (
     c .before .length3 .ensures .0,
     c .before .before .length2 .ensures .0,
     c .before .before .before .length .ensures .0,
+    c .before .before .before .before .lengths-at .ensures .0,
   ),
   record { window = omega arith; heap = omega arith; sinit = omega arith; policyRecord = omega arith },
 )
@@ -55,6 +59,7 @@ pub offsets-in-spec : {M : Type 1} → statement M
 offsets-in-spec =
     tie.close
     (tie.spec
+    lengths-at-requires
     add-window
     length-requires
     add-heap

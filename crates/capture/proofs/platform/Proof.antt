@@ -1,5 +1,4 @@
 -- `platform` meets its contract: each field is read where it stands.
-use Rattle.capture.specs.Capture.{platformOf}
 use borrow.Author.Needs.{needs}
 use Rattle.capture.proofs.platform.Statement.{statement}
 use Rattle.capture.proofs.platform.Tie as tie
@@ -32,10 +31,13 @@ number16-requires-2 c κs = search needs
 number16-requires-3 : tie.Need-number16-requires-3
 number16-requires-3 c κs = search needs
 
+reserved-requires : tie.Need-reserved-requires
+reserved-requires c κs = search needs
+
 returns : tie.Need-returns
-unfolding platformOf
 returns c =
-    let c8 = c .before in
+    let c9 = c .before in
+    let c8 = c9 .before in
     let c7 = c8 .before in
     let c6 = c7 .before in
     let c5 = c6 .before in
@@ -44,7 +46,8 @@ returns c =
     let c2 = c3 .before in
     let c1 = c2 .before in
     rw (
-      c .number163 .ensures,
+      c .reserved .ensures,
+      c9 .number163 .ensures,
       c8 .number162 .ensures,
       c7 .number16 .ensures,
       c6 .number-or-zero6 .ensures .0,
@@ -68,4 +71,5 @@ platform-spec =
     number16-requires
     number16-requires-2
     number16-requires-3
+    reserved-requires
     returns)

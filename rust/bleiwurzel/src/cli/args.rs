@@ -32,7 +32,7 @@ pub fn parse(words: Vec<OsString>, help: &'static str, valued: &[&str], plain: &
             }
             args.plain.push(name);
         } else if valued.contains(&name.as_str()) {
-            if args.value(&name).is_some() {
+            if name != RESERVED && args.value(&name).is_some() {
                 return misuse(help, format!("{name} is given twice; give it once"));
             }
             match joined.or_else(|| words.next()) {
@@ -64,6 +64,11 @@ fn split(word: OsString) -> (String, Option<OsString>) {
 impl Args {
     pub fn value(&self, name: &str) -> Option<&OsStr> {
         self.values.iter().find(|(given, _)| given == name).map(|(_, value)| value.as_os_str())
+    }
+
+    /// All values of a flag that may be given more than once.
+    pub fn values(&self, name: &str) -> Vec<&OsStr> {
+        self.values.iter().filter(|(given, _)| given == name).map(|(_, value)| value.as_os_str()).collect()
     }
 
     pub fn has(&self, name: &str) -> bool {
@@ -109,5 +114,7 @@ impl Args {
 /// The flags whose files are written: what a command makes, and the policy record that goes with a policy file.
 pub const OUTPUT: &str = "--output";
 pub const RECORD: &str = "--record";
+/// The one flag that may be given more than once: a reserved range of the platform.
+pub const RESERVED: &str = "--reserved";
 /// The flag that every command has.
 pub const HELP: &str = "--help";

@@ -2,9 +2,9 @@
 
 use super::args::{self, Args, OUTPUT};
 use super::json::{hex, Json};
-use super::{check, files, help, misuse, names, platform, report, save, say, Misuse, Said, YES};
-use bleiwurzel::capture::Unfit;
-use bleiwurzel::{capture, finding, text, Parts, Platform, Refusal};
+use super::{check, files, help, memory_map, misuse, names, platform, report, save, say, Misuse, Said, YES};
+use bleiwurzel::capture::{Fault, Layout, Unfit};
+use bleiwurzel::{capture, finding, text, MemoryRange, Parts, Platform, Refusal};
 use std::ffi::{OsStr, OsString};
 
 const HELP: &str = "bleiwurzel capture";
@@ -34,8 +34,9 @@ fn make(words: Vec<OsString>) -> Result<Said, Misuse> {
         return misuse(MAKE, unfit(Unfit::Stm, false));
     }
     let output = output(&args)?;
-    let platform = platform::read(&args, MAKE)?;
+    let mut platform = platform::read(&args, MAKE)?;
     let loaded = check::load(&args, MAKE, [capture::MOST as u64; 4], files::read)?;
+    memory_map::reserve(&args, loaded.parts().window, &mut platform, MAKE)?;
     let bytes = capture::make(&loaded.parts(), &platform).or_else(|why| misuse(MAKE, unfit(why, loaded.more())))?;
     save::write(output, &bytes, MAKE)?;
     // Said here: where it cannot be, the file is there all the same.
@@ -93,8 +94,8 @@ fn show(words: Vec<OsString>) -> Result<Said, Misuse> {
     let path = args.one_word("the capture file")?;
     let file = files::read(path, capture::MOST as u64, "the capture", SHOW)?;
     let json = args.has("--json");
-    Ok(match capture::split(&file.bytes) {
-        Ok((parts, platform)) => Said { text: shown(&file.bytes, &parts, &platform, json), status: YES },
+    Ok(match shown(&file.bytes, json) {
+        Ok(text) => Said { text, status: YES },
         Err(_) => {
             let refusal = Refusal { number: 30, place: 0 };
             let found = finding::find_in_capture(refusal, &file.bytes, 0).map(|found| file.or_more(found));
@@ -103,41 +104,44 @@ fn show(words: Vec<OsString>) -> Result<Said, Misuse> {
     })
 }
 
-/// The name, file offset and length of each part.
-fn places(parts: &Parts) -> Vec<(&'static str, usize, usize)> {
+/// The name, file offset and length of each part; the first stands at `at`.
+fn places(parts: &Parts, mut at: usize) -> Vec<(&'static str, usize, usize)> {
     let lengths = [parts.window, parts.heap, parts.sinit, parts.record].map(<[u8]>::len);
-    let mut at = capture::HEAD;
     let mut places = Vec::new();
-    for ((name, _), length) in capture::PARTS.iter().zip(lengths) {
+    for (name, length) in capture::PARTS.iter().zip(lengths) {
         places.push((*name, at, length));
         at += length;
     }
     places
 }
 
-fn shown(bytes: &[u8], parts: &Parts, platform: &Platform, json: bool) -> String {
+fn shown(bytes: &[u8], json: bool) -> Result<String, Fault> {
+    let (parts, platform) = capture::split(bytes)?;
+    let layout = Layout::read(bytes)?;
+    let places = places(&parts, layout.head());
     if json {
-        return shown_json(bytes, parts, platform).line();
+        return Ok(shown_json(bytes, layout.version, &platform, &places).line());
     }
-    let mut text =
-        format!("# capture, version {}, {} bytes\n# platform, as --platform takes it\n", capture::VERSION, bytes.len());
-    text.push_str(&platform::text(platform));
+    let mut text = format!("# capture, version {}, {} bytes\n# platform, as --platform takes it\n", layout.version, bytes.len());
+    text.push_str(&platform::text(&platform));
     text.push_str("# parts\n");
-    for (name, at, length) in places(parts) {
+    for (name, at, length) in places {
         text.push_str(&format!("# {name:<13}  {:>11} at file offset {at}\n", text::bytes(length as u64)));
     }
-    text
+    Ok(text)
 }
 
-fn shown_json(bytes: &[u8], parts: &Parts, platform: &Platform) -> Json {
+fn shown_json(bytes: &[u8], version: u16, platform: &Platform, places: &[(&'static str, usize, usize)]) -> Json {
     let numbers = platform::KEYS.iter().zip(platform::values(platform)).map(|((key, _, _), value)| (*key, hex(value)));
-    let part = |(name, at, length): (&'static str, usize, usize)| {
-        Json::Object(vec![("name", Json::from(name)), ("offset", Json::from(at)), ("length", Json::from(length))])
+    let range = |range: &MemoryRange| Json::Object(vec![("base", hex(range.base)), ("size", hex(range.size))]);
+    let reserved = Json::List(platform.reserved.as_slice().iter().map(range).collect());
+    let part = |(name, at, length): &(&'static str, usize, usize)| {
+        Json::Object(vec![("name", Json::from(*name)), ("offset", Json::from(*at)), ("length", Json::from(*length))])
     };
     Json::Object(vec![
-        ("version", Json::from(u32::from(capture::VERSION))),
+        ("version", Json::from(u32::from(version))),
         ("bytes", Json::from(bytes.len())),
-        ("platform", Json::Object(numbers.collect())),
-        ("parts", Json::List(places(parts).into_iter().map(part).collect())),
+        ("platform", Json::Object(numbers.chain([(platform::RESERVED, reserved)]).collect())),
+        ("parts", Json::List(places.iter().map(part).collect())),
     ])
 }

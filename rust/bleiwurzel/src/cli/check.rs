@@ -1,8 +1,8 @@
 //! `bleiwurzel check`, and the parts that `capture make` takes too.
 
-use super::args::{self, Args};
+use super::args::{self, Args, RESERVED};
 use super::files::Contents;
-use super::{files, help, misuse, module, platform, report, Misuse, Said, MISUSE};
+use super::{files, help, memory_map, misuse, module, platform, report, Misuse, Said, MISUSE};
 use bleiwurzel::finding::{self, AtHand, Lengths};
 use bleiwurzel::{capture, Parts, Platform, MOST_HEAP, MOST_PAGES, MOST_STM, MOST_WINDOW, RECORD_LENGTH};
 use std::ffi::OsString;
@@ -17,8 +17,9 @@ pub const STM: &str = "--stm";
 
 /// The flags of the parts and of the platform, and these.
 pub fn flags(more: &[&'static str]) -> Vec<&'static str> {
-    let platform = platform::KEYS.iter().map(|(_, flag, _)| *flag);
-    PARTS.iter().copied().chain([STM, "--platform"]).chain(platform).chain(more.iter().copied()).collect()
+    let numbers = platform::KEYS.iter().map(|(_, flag, _)| *flag);
+    let platform = ["--platform"].into_iter().chain(numbers).chain([RESERVED, memory_map::FLAG]);
+    PARTS.iter().copied().chain([STM]).chain(platform).chain(more.iter().copied()).collect()
 }
 
 /// The parts as files.
@@ -90,8 +91,9 @@ pub fn run(words: Vec<OsString>) -> Result<Said, Misuse> {
     if args.value("--capture").is_some() {
         return of_capture(&args);
     }
-    let platform = platform::read(&args, HELP)?;
+    let mut platform = platform::read(&args, HELP)?;
     let loaded = load(&args, HELP, limits(&platform), module::read)?;
+    memory_map::reserve(&args, loaded.parts().window, &mut platform, HELP)?;
     Ok(of_parts(&loaded, &platform, args.has("--json")))
 }
 

@@ -33,7 +33,7 @@ bleiwurzel check: will the next launch succeed?
 
 Usage:
   bleiwurzel check --window FILE --heap FILE --sinit FILE --policy-record FILE
-                   [--stm FILE] --platform FILE [--json]
+                   [--stm FILE] --platform FILE [--reserved-from FILE] [--json]
   bleiwurzel check --capture FILE [--json]
 
 The parts:
@@ -63,6 +63,18 @@ are decimal, or hexadecimal with 0x:
   --vendor N, --device N, --revision N
                          the chipset, TXT.DIDVID: bits 0 to 15, 16 to 31 and
                          32 to 47
+  --reserved BASE+SIZE   memory that no table and no page may touch (17); may be
+                         given several times, and is added to what the file
+                         has, up to 16 ranges in all. Without it only the range
+                         0xA0000 to 0xFFFFF, heap and SINIT module are kept
+                         clear
+  --reserved-from FILE   reserves what a memory map of the host lists in the
+                         window, usable memory apart: /proc/iomem, read as root,
+                         or the kernel's log with its lines BIOS-e820. Ranges
+                         that adjoin count as one. Most firmware lists the DPR,
+                         the TXT heap and SINIT memory there too, and then an
+                         image in the DPR is refused with 17: for such an image
+                         give ranges by --reserved instead
 
 A platform file:
   window_base = 0x100000
@@ -74,6 +86,8 @@ A platform file:
   vendor = 0x8086
   device = 0xb002
   revision = 1
+  reserved = 0x7f000000+0x800000
+  reserved = 0xe0000000+0x10000000
 
 Answers:
   permitted   the image's pages as ranges of physical memory, the policy list
@@ -99,6 +113,8 @@ Examples:
     bleiwurzel check .. --platform host17.txt --stm stm.bin
   The same, if there were no DPR:
     bleiwurzel check .. --platform host17.txt --dpr-size 0
+  The same, clear of what the host's memory map lists as reserved:
+    bleiwurzel check .. --platform host17.txt --reserved-from iomem.txt
 ";
 
 pub const POLICY: &str = "\
@@ -251,8 +267,11 @@ Parts and platform are given as for bleiwurzel check; see its --help. A capture
 has no place for an STM image: --stm is refused. Nothing is judged here: a
 capture may be of an image that is refused. A file that is there already is not
 overwritten, and the capture has its name only when it is whole. With --output -
-it goes to standard output, where --json cannot write too. 75 bytes and the
-parts must be at most 65536.
+it goes to standard output, where --json cannot write too.
+
+With reserved ranges the capture has version 2, without them version 1. 75 bytes
+and the parts must be at most 65536; reserved ranges take 2 bytes more and 16
+for each.
 
 Example:
   bleiwurzel capture make --window window.bin --heap heap.bin \\
@@ -266,8 +285,8 @@ bleiwurzel capture show: the platform and the parts of a capture file.
 Usage:
   bleiwurzel capture show FILE [--json]
 
-The plain output is itself a platform file. Exit status 1 where the file is no
-capture, with the field that is wrong.
+The plain output is itself a platform file, with the reserved ranges. Exit
+status 1 where the file is no capture, with the field that is wrong.
 
 Examples:
   bleiwurzel capture show host17.cap

@@ -8,6 +8,7 @@ mod dump;
 mod files;
 mod help;
 mod json;
+mod memory_map;
 mod module;
 mod names;
 mod platform;

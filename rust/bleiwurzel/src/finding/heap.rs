@@ -1,20 +1,7 @@
 //! Rules 2 to 5: the parts of the heap, OsSinitData, its elements, the PMRs.
 
 use super::{bytes, fail, field, need, number, Step};
-use crate::HIGHEST_END;
-
-/// A range of memory as base and size.
-#[derive(Clone, Copy)]
-pub struct Range {
-    pub base: u64,
-    pub size: u64,
-}
-
-impl Range {
-    pub fn end(&self) -> u128 {
-        u128::from(self.base) + u128::from(self.size)
-    }
-}
+use crate::{MemoryRange, HIGHEST_END};
 
 /// What OsSinitData asks for.
 pub struct OsSinitData {
@@ -24,9 +11,9 @@ pub struct OsSinitData {
     pub tables: u64,
     pub mle_size: u64,
     pub header: u64,
-    pub low: Range,
-    pub high: Range,
-    pub file: Range,
+    pub low: MemoryRange,
+    pub high: MemoryRange,
+    pub file: MemoryRange,
 }
 
 impl OsSinitData {
@@ -49,7 +36,7 @@ pub fn read(heap: &[u8]) -> Step<OsSinitData> {
     need(version == 6 || version == 7, 3, place(at, "version", 0), "6 or 7", format!("{version} ({version:#x})"))?;
     elements(heap, start, start + size)?;
     let wide = |offset| field(heap, at + offset, 8);
-    let range = |offset| Range { base: wide(offset), size: wide(offset + 8) };
+    let range = |offset| MemoryRange { base: wide(offset), size: wide(offset + 8) };
     let asked = OsSinitData {
         at,
         version,
@@ -111,7 +98,7 @@ fn elements(heap: &[u8], start: u64, end: u64) -> Step<()> {
 }
 
 fn protected(asked: &OsSinitData) -> Step<()> {
-    let shown = |range: &Range| format!("base {:#x} + size {:#x} = {:#x}", range.base, range.size, range.end());
+    let shown = |range: &MemoryRange| format!("base {:#x} + size {:#x} = {:#x}", range.base, range.size, range.end());
     let (low, high) = (&asked.low, &asked.high);
     if low.size != 0 {
         let place = asked.place("PMR low base and size", 32);

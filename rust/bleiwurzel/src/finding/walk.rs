@@ -1,8 +1,8 @@
 //! Rules 14 to 20: the walk through the page tables, level by level.
 
-use super::heap::{OsSinitData, Range};
-use super::{field, need, noted, on_a_page, Step};
-use crate::{Parts, Platform, MOST_TABLES, PAGE_SIZE};
+use super::heap::OsSinitData;
+use super::{field, need, noted, on_a_page, reserved_range, Step};
+use crate::{MemoryRange, Parts, Platform, MOST_TABLES, PAGE_SIZE};
 use std::fmt;
 
 const ADDRESS: u64 = 0x000f_ffff_ffff_f000;
@@ -11,12 +11,12 @@ const ADDRESS: u64 = 0x000f_ffff_ffff_f000;
 #[derive(Clone, Copy)]
 struct Region {
     name: &'static str,
-    range: Range,
+    range: MemoryRange,
 }
 
 impl Region {
     /// Whether all bytes of a page lie in it.
-    fn holds(&self, page: &Range) -> bool {
+    fn holds(&self, page: &MemoryRange) -> bool {
         page.base >= self.range.base && page.end() <= self.range.end()
     }
 }
@@ -29,8 +29,9 @@ impl fmt::Display for Region {
 
 /// Ranges of memory that the walk asks about.
 pub struct Memory {
-    window: Range,
-    forbidden: [(&'static str, Range); 3],
+    window: MemoryRange,
+    /// The ranges that no table and no page may touch, in the order in which they are tried.
+    forbidden: Vec<(String, MemoryRange)>,
     regions: [Region; 3],
     /// Where the table base was read.
     base_place: String,
@@ -38,16 +39,18 @@ pub struct Memory {
 
 impl Memory {
     pub fn new(parts: &Parts, platform: &Platform, asked: &OsSinitData) -> Self {
-        let range = |base: u64, size: usize| Range { base, size: size as u64 };
+        let range = |base: u64, size: usize| MemoryRange { base, size: size as u64 };
+        let fixed = [
+            ("the range below 1 MiB".to_string(), MemoryRange { base: 0xa0000, size: 0x60000 }),
+            ("the heap".to_string(), range(platform.heap_base, parts.heap.len())),
+            ("the SINIT module".to_string(), range(platform.sinit_base, parts.sinit.len())),
+        ];
+        let reserved = platform.reserved.as_slice().iter().enumerate().map(|(index, range)| (reserved_range(index), *range));
         Memory {
             window: range(platform.window_base, parts.window.len()),
-            forbidden: [
-                ("the range below 1 MiB", Range { base: 0xa0000, size: 0x60000 }),
-                ("the heap", range(platform.heap_base, parts.heap.len())),
-                ("the SINIT module", range(platform.sinit_base, parts.sinit.len())),
-            ],
+            forbidden: fixed.into_iter().chain(reserved).collect(),
             regions: [
-                Region { name: "DPR", range: Range { base: platform.dpr_base, size: platform.dpr_size } },
+                Region { name: "DPR", range: MemoryRange { base: platform.dpr_base, size: platform.dpr_size } },
                 Region { name: "PMR low", range: asked.low },
                 Region { name: "PMR high", range: asked.high },
             ],
@@ -196,15 +199,11 @@ impl Walk<'_> {
     }
 
     fn clear(&self, address: u64, place: impl Fn() -> String) -> Step<()> {
-        for (name, range) in &self.memory.forbidden {
-            let page = page_at(address);
-            let begin = u128::from(page.base.max(range.base));
-            if begin < page.end().min(range.end()) {
-                let expected = format!("clear of {name}, {}", shown(range));
-                return need(false, 17, place(), expected, shown(&page));
-            }
+        let page = page_at(address);
+        match self.memory.forbidden.iter().find(|(_, range)| range.touches(&page)) {
+            None => Ok(()),
+            Some((name, range)) => need(false, 17, place(), format!("clear of {name}, {}", shown(range)), shown(&page)),
         }
-        Ok(())
     }
 
     /// The regions that hold this page and every one before it. `first` is the first of all pages, where that is another.
@@ -233,7 +232,7 @@ impl Walk<'_> {
 
     /// Why none of the other regions will do for a later page. A region is one range and the pages ascend, so one with the first page and this
     /// one has those between too: where another region holds this page, it is the first that it does not hold.
-    fn other_regions(&self, page: &Range, first: &Range) -> Vec<String> {
+    fn other_regions(&self, page: &MemoryRange, first: &MemoryRange) -> Vec<String> {
         let other = |region: &&Region| self.common.iter().all(|common| common.name != region.name);
         let why = |region: &Region| {
             if region.holds(page) {
@@ -246,11 +245,11 @@ impl Walk<'_> {
     }
 }
 
-fn page_at(address: u64) -> Range {
-    Range { base: address, size: PAGE_SIZE }
+fn page_at(address: u64) -> MemoryRange {
+    MemoryRange { base: address, size: PAGE_SIZE }
 }
 
-fn shown(range: &Range) -> String {
+fn shown(range: &MemoryRange) -> String {
     if range.size == 0 {
         return "of size 0".to_string();
     }

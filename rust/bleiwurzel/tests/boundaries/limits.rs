@@ -1,5 +1,5 @@
 //! Rule 1: the window's base, and base plus size of window, heap and DPR. Windows and heaps of the greatest length stand in
-//! tests/images.rs, STM images in `stm`.
+//! tests/images.rs, STM images in `stm`, reserved ranges in `reserved`.
 
 use crate::common::*;
 

@@ -4,6 +4,8 @@
 //!
 //! Where rules 14 to 20 hold but the tables map another number of pages than MLE Size says, 21 shows that they hold.
 
+#[path = "../common/by_c.rs"]
+mod by_c;
 #[path = "../common/mod.rs"]
 mod common;
 mod heap;
@@ -15,6 +17,7 @@ mod order;
 mod places;
 mod protection;
 mod record;
+mod reserved;
 mod stm;
 #[path = "../common/stored_image.rs"]
 mod stored_image;

@@ -1,5 +1,5 @@
 //! Rules 14 to 19: the table base, entry bits, the window, the order of addresses, forbidden ranges, the number of tables and linear gaps.
-//! `protection` has rule 20.
+//! `protection` has rule 20, and `reserved` the platform's own ranges.
 //!
 //! Heap and module have at least 124 and 704 bytes here, and a module begins on a page, since lower rules ask for that: an empty heap
 //! inside a table, and a heap or module of one byte, cannot be shown by the whole check.

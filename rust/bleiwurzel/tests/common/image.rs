@@ -1,7 +1,7 @@
 //! Images that the check permits: a window with tables and pages, a heap, a SINIT module, a record of type ANY and a platform.
 
 use super::put;
-use bleiwurzel::{Parts, Platform, MOST_PAGES};
+use bleiwurzel::{MemoryRange, Parts, Platform, Reserved, MOST_PAGES, MOST_RESERVED};
 
 pub const PAGE: usize = 4096;
 pub const BASE: u64 = 0x10_0000;
@@ -89,6 +89,12 @@ impl Image {
         4 * usize::from(self.sinit[4])
     }
 
+    /// Gives the platform these reserved ranges, as base and size.
+    pub fn reserve(&mut self, ranges: &[(u64, u64)]) {
+        let ranges: Vec<MemoryRange> = ranges.iter().map(|(base, size)| MemoryRange { base: *base, size: *size }).collect();
+        self.platform.reserved = Reserved::new(&ranges).expect("at most 16 ranges");
+    }
+
     /// The physical address of a page of the window.
     pub fn address(&self, page: usize) -> u64 {
         self.platform.window_base + (page * PAGE) as u64
@@ -130,6 +136,14 @@ impl Image {
     pub fn header(&self, field: usize) -> usize {
         self.offset(self.listed[0]) + field
     }
+}
+
+/// Reserved ranges as the library takes them: how many count, and base and size in turn of all that there is place for.
+pub fn reserved_numbers(reserved: &Reserved) -> (u32, [u64; 2 * MOST_RESERVED]) {
+    let mut numbers = [0; 2 * MOST_RESERVED];
+    let given = reserved.as_slice().iter().flat_map(|range| [range.base, range.size]);
+    numbers.iter_mut().zip(given).for_each(|(place, number)| *place = number);
+    (reserved.as_slice().len() as u32, numbers)
 }
 
 fn heap(shape: &Shape) -> Vec<u8> {
@@ -210,6 +224,7 @@ fn empty(shape: &Shape, length: usize) -> Image {
         vendor: 0x8086,
         device: 0xb002,
         revision: 5,
+        reserved: Reserved::NONE,
     };
     Image {
         window: vec![0u8; length],

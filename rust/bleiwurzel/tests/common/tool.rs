@@ -68,6 +68,8 @@ pub fn written(folder: &Path, image: &Image) -> Vec<String> {
         p.window_base, p.heap_base, p.sinit_base, p.dpr_base, p.dpr_size, p.acram_capacity, p.vendor, p.device, p.revision
     )
     .replace("0XB", "0xB");
+    let reserved = p.reserved.as_slice().iter().map(|range| format!("reserved = {:#x}+{}\n", range.base, range.size));
+    let platform = platform + &reserved.collect::<String>();
     let parts: [(&str, &str, &[u8]); 6] = [
         ("--window", "window.bin", &image.window),
         ("--heap", "heap.bin", &image.heap),

@@ -1,6 +1,7 @@
 -- `find` meets its contract: rules 1 to 11, and what is left.
 use mathlib.Core.Path.{_∙_, sym}
 use borrow.Author.Tests.{not-true, not-false}
+use Rattle.launch.proofs.Conditions.{platform-exactly}
 use Rattle.launch.proofs.Finding.{platform-refuses, heap-refuses, module-refuses, module-passes}
 use borrow.Author.Needs.{needs}
 use Rattle.launch.proofs.find.find.Statement.{statement}
@@ -38,7 +39,9 @@ memory-requires : tie.Need-memory-requires
 memory-requires c κs = search needs
 
 find-pages-requires : tie.Need-find-pages-requires
-find-pages-requires c κs = search needs
+find-pages-requires c κs =
+    let at-heap = c .before .before .before .before .before .before .before .before .before in
+    platform-exactly _ _ _ _ .0 (sym (at-heap .before .before .platform-holds .ensures) ∙ not-false _ (at-heap .before .if1 .left)) .reservedMost
 
 returns-2 : tie.Need-returns-2
 returns-2 c =

@@ -4,7 +4,7 @@ use mathlib.Core.Bool.{true≢false}
 use native.Mathlib.Omega.{arith}
 use Rattle.range.proofs.Ranges.{ends-exactly}
 use Rattle.rules.proofs.Tests.{fails, agrees, confirmed, refuted}
-use Rattle.launch.proofs.Conditions.{platform-exactly}
+use Rattle.launch.proofs.Conditions.{reserved-exactly, platform-exactly}
 use borrow.Author.Needs.{needs}
 use Rattle.launch.proofs.find.platform_holds.Statement.{statement}
 use Rattle.launch.proofs.find.platform_holds.Tie as tie
@@ -37,10 +37,17 @@ ends-requires-3 : tie.Need-ends-requires-3
 ends-requires-3 c κs = search needs
 
 returns-7 : tie.Need-returns-7
-returns-7 c =
-    let at-heap = c .before .before in
+returns-7 c = fails (platform-exactly _ _ _ _) (λ h. refuted _ (c .before .ends3 .ensures) (c .if7 .taken) (ends-exactly _ _ .1 (h .dprEnd)))
+
+reserved-holds-requires : tie.Need-reserved-holds-requires
+reserved-holds-requires c κs = search needs
+
+returns-8 : tie.Need-returns-8
+returns-8 c =
+    let at-dpr = c .before .before in
+    let at-heap = at-dpr .before .before in
     let at-window = at-heap .before .before in
-    c .ends3 .ensures
+    c .reserved-holds .ensures
     ∙ agrees _ (platform-exactly _ _ _ _)
     (λ e.
     record {
@@ -49,10 +56,12 @@ returns-7 c =
       heapMost = omega arith;
       stmMost = omega arith;
       windowEnd = ends-exactly _ _ .0 (confirmed _ (at-window .ends .ensures) (at-heap .before .if5 .left));
-      heapEnd = ends-exactly _ _ .0 (confirmed _ (at-heap .ends2 .ensures) (c .before .if6 .left));
-      dprEnd = ends-exactly _ _ .0 e;
+      heapEnd = ends-exactly _ _ .0 (confirmed _ (at-heap .ends2 .ensures) (at-dpr .before .if6 .left));
+      dprEnd = ends-exactly _ _ .0 (confirmed _ (at-dpr .ends3 .ensures) (c .before .if7 .left));
+      reservedMost = reserved-exactly _ .0 e .0;
+      reservedEnds = reserved-exactly _ .0 e .1;
     })
-    (λ e h. true≢false (sym (ends-exactly _ _ .1 (h .dprEnd)) ∙ e))
+    (λ e h. true≢false (sym (reserved-exactly _ .1 (h .reservedMost, h .reservedEnds)) ∙ e))
 
 pub platform-holds-spec : {M : Type 1} → statement M
 platform-holds-spec =
@@ -67,4 +76,6 @@ platform-holds-spec =
     ends-requires-2
     returns-6
     ends-requires-3
-    returns-7)
+    returns-7
+    reserved-holds-requires
+    returns-8)

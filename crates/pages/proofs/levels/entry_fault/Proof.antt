@@ -45,7 +45,8 @@ own-fault-requires c κs =
 returns-5 : tie.Need-returns-5
 returns-5 c =
     let d = c .before .before .before .before .before .before .before in
-    rw (← d .address .ensures) (search (needs, pass))
+    let reserved = d .before .before .before .before .before .args .reserved in
+    rw (← d .address .ensures) (search (needs, pass, c .own-fault .ensures (reserved .now)))
 
 pub entry-fault-spec : {M : Type 1} → statement M
 entry-fault-spec =

@@ -3,7 +3,7 @@ use mathlib.Core.Path.{_≡_, ap, _∙_}
 use Rattle.range.specs.declared.Range.{Range}
 use Rattle.range.specs.Range.{insideOf}
 use Rattle.rules.specs.Tests.{any}
-use Rattle.pages.specs.Memory.{regions, protected}
+use Rattle.pages.specs.Memory.{memoryOf, regions, protected}
 use Rattle.pages.specs.Inner.{commonOf}
 use Rattle.pages.proofs.Kept.{protected-is}
 use borrow.Author.Needs.{needs}
@@ -41,18 +41,18 @@ unless-requires-4 : tie.Need-unless-requires-4
 unless-requires-4 c κs = search needs
 
 returns : tie.Need-returns
-returns c = simp (c .before .before .enum-told .given .1, c .unless .ensures)
+returns c reserved = simp (c .before .before .enum-told .given .1, c .unless .ensures)
 
 returns-2 : tie.Need-returns-2
-returns-2 c = simp (c .before .before .enum-told2 .given .1, c .unless2 .ensures)
+returns-2 c reserved = simp (c .before .before .enum-told2 .given .1, c .unless2 .ensures)
 
 returns-3 : tie.Need-returns-3
-returns-3 c =
+returns-3 c reserved =
     let d = c .before .before in
     let start = d .before .before .before .before .before in
-    let m = start .args .m in
+    let m = memoryOf (start .args .m) reserved in
     let is : d .is-protected .result ≡ protected (commonOf m (start .args .p)) (start .args .a) =
-    d .is-protected .ensures
+    d .is-protected .ensures reserved
     ∙ ap (λ (pages : Range). any (insideOf pages) (regions m)) (d .before .pages-to .ensures)
     ∙ protected-is (start .args .p) (start .args .a) (start .pre) m in
     simp (d .before .before .before .enum-told3 .given .1, c .unless4 .ensures, c .before .unless3 .ensures, is, d .before .before .page-follows .ensures)

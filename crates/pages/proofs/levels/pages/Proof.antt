@@ -3,7 +3,7 @@ use Prim.Native.Nat.{_*_, _-_, _≤_}
 use mathlib.Core.Path.{_≡_}
 use native.Mathlib.Omega.{arith}
 use Rattle.pages.specs.declared.Kind.the-variants.{Directory, Page}
-use Rattle.pages.specs.Memory.{windowOf}
+use Rattle.pages.specs.Memory.{windowOf, memoryOf}
 use Rattle.pages.specs.Tables.{entries, entryAt, levelSize, foundFrom, foundIn}
 use Rattle.pages.specs.Inner.{Tried}
 use Rattle.pages.proofs.Tried.{tried-none, table-more}
@@ -12,10 +12,10 @@ use Rattle.pages.proofs.levels.pages.Statement.{statement}
 use Rattle.pages.proofs.levels.pages.Tie as tie
 
 abbrev Inv-loop : tie.InvT-loop
-Inv-loop w m t run₀ d₀ run d = (d ≤ levelSize Directory) × Tried (windowOf w (m .window)) m run₀ run (foundFrom Page (entryAt Page w (m .window) t) 0 (entries * d))
+Inv-loop w m reserved t run₀ d₀ run d = (d ≤ levelSize Directory) × Tried (windowOf w (m .window)) (memoryOf m reserved) run₀ run (foundFrom Page (entryAt Page w (m .window) t) 0 (entries * d))
 
 abbrev μ-loop : tie.MeasureT-loop
-μ-loop w m t run₀ d₀ run d = levelSize Directory - d
+μ-loop w m reserved t run₀ d₀ run d = levelSize Directory - d
 
 loop-holds : tie.Need-loop-holds Inv-loop μ-loop
 unfolding foundFrom
@@ -24,7 +24,7 @@ loop-holds c = (search needs, tried-none _ _ _)
 table-requires : tie.Need-table-requires Inv-loop μ-loop
 table-requires c κs =
     let loop = c .before in
-    (loop .loop .inv .1 .ordered (loop .before .before .pre), search needs)
+    (loop .loop .inv .1 .ordered (loop .before .before .before .pre), search needs)
 
 add-d : tie.Need-add-d Inv-loop μ-loop
 add-d c = search needs

@@ -2,7 +2,7 @@
 use Prim.Native.Nat.{_-_, _≤_}
 use mathlib.Core.Path.{_≡_}
 use native.Mathlib.Omega.{arith}
-use Rattle.pages.specs.Memory.{windowOf}
+use Rattle.pages.specs.Memory.{windowOf, memoryOf}
 use Rattle.pages.specs.Tables.{entryAt, foundFrom}
 use Rattle.pages.specs.Inner.{Tried}
 use Rattle.pages.proofs.Tried.{tried-none, span-more}
@@ -11,10 +11,10 @@ use Rattle.pages.proofs.levels.span.Statement.{statement}
 use Rattle.pages.proofs.levels.span.Tie as tie
 
 abbrev Inv-loop : tie.InvT-loop
-Inv-loop kind w m t l n run₀ i₀ run i = (i ≤ n) × Tried (windowOf w (m .window)) m run₀ run (foundFrom kind (entryAt kind w (m .window) t) l i)
+Inv-loop kind w m reserved t l n run₀ i₀ run i = (i ≤ n) × Tried (windowOf w (m .window)) (memoryOf m reserved) run₀ run (foundFrom kind (entryAt kind w (m .window) t) l i)
 
 abbrev μ-loop : tie.MeasureT-loop
-μ-loop kind w m t l n run₀ i₀ run i = n - i
+μ-loop kind w m reserved t l n run₀ i₀ run i = n - i
 
 loop-holds : tie.Need-loop-holds Inv-loop μ-loop
 unfolding foundFrom
@@ -32,7 +32,7 @@ entry-requires c κs = search needs
 step-requires : tie.Need-step-requires Inv-loop μ-loop
 step-requires c κs =
     let loop = c .before .before in
-    (loop .loop .inv .1 .ordered (loop .before .before .pre .0), search needs)
+    (loop .loop .inv .1 .ordered (loop .before .before .before .pre .0), search needs)
 
 add-i : tie.Need-add-i Inv-loop μ-loop
 add-i c = search needs
@@ -48,7 +48,7 @@ loop-again c = (
 
 returns : tie.Need-returns Inv-loop μ-loop
 returns c =
-    let all : c .before .loop .i ≡ c .before .before .before .args .n = omega arith in
+    let all : c .before .loop .i ≡ c .before .before .before .before .args .n = omega arith in
     rw all at (c .before .loop .inv .1)
 
 pub span-spec : {M : Type 1} → statement M

@@ -31,7 +31,7 @@ address-requires c κs = search needs
 after-entry-requires : tie.Need-after-entry-requires
 after-entry-requires c κs =
     let none = sym (c .before .before .entry-fault .ensures) ∙ c .before .if3 .left in
-    let start = c .before .before .before .before .before .before .before .before .before in
+    let start = c .before .before .before .before .before .before .before .before .before .before in
     (rw (c .address .ensures) (above _ _ _ _ _ _ none (start .pre .0)), (room _ _ _ _ _ _ none, search needs))
 
 returns-4 : tie.Need-returns-4

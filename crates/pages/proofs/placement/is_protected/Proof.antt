@@ -14,14 +14,14 @@ inside-requires-3 : tie.Need-inside-requires-3
 inside-requires-3 c κs = search needs
 
 returns : tie.Need-returns
-returns c = decided by-some _ _ (c .before .inside .ensures) _ (c .if1 .taken)
+returns c reserved = decided by-some _ _ (c .before .inside .ensures) _ (c .if1 .taken)
 
 returns-2 : tie.Need-returns-2
-returns-2 c =
+returns-2 c reserved =
     left-to by-some _ _ (c .before .before .before .inside .ensures) _ _ (c .before .before .if1 .left) (decided by-some _ _ (c .before .inside2 .ensures) _ (c .if2 .taken))
 
 returns-3 : tie.Need-returns-3
-returns-3 c =
+returns-3 c reserved =
     left-to by-some _ _ (c .before .before .before .before .inside .ensures) _ _ (c .before .before .before .if1 .left)
     (left-to by-some _ _ (c .before .before .inside2 .ensures) _ _ (c .before .if2 .left) (last by-some _ _ (c .inside3 .ensures)))
 

@@ -143,7 +143,7 @@ struct bleiwurzel_platform {
     uint16_t vendor;         /* chipset vendor, device and revision (TXT.DIDVID) */
     uint16_t device;
     uint16_t revision;
-    uint32_t reserved_count; /* how many ranges no table and no page may touch besides 0xA0000 to 0xFFFFF; in a zeroed struct none */
+    uint32_t reserved_count; /* how many ranges, besides 0xA0000 to 0xFFFFF, heap and module, no table and no page may touch; none if zeroed */
     struct bleiwurzel_range reserved[BLEIWURZEL_MOST_RESERVED]; /* they may overlap each other; those past the count are ignored */
 };
 

@@ -1,11 +1,11 @@
--- Which ranges of the platform never change the answer or the page list: those past the count.
+-- Which ranges of the platform never change the answer, the page list or the measurement: those past the count.
 use mathlib.Core.Path.{_≡_}
 use mathlib.Core.List.{List}
 use Prim.Native.Nat.{ℕ}
 use Rattle.launch.specs.declared.Platform.{Platform}
 use Rattle.launch.specs.declared.ReservedRanges.{ReservedRanges}
 use Rattle.launch.specs.Rules.{Input, inputOf, reservedNumbers}
-use Rattle.launch.specs.Answer.{answerOf, placesOf}
+use Rattle.launch.specs.Answer.{answerOf, placesOf, measurementOf}
 
 -- the same platform with other reserved ranges
 abbrev pub reserving : Platform → ReservedRanges → Platform
@@ -34,4 +34,6 @@ pub record SameWithin (r s : ReservedRanges) : Type 0 where
 -- "ranges past the count are ignored"
 abbrev pub PastCountIgnored : Type 0
 PastCountIgnored = (i : Input) (r s : ReservedRanges) (places : List ℕ) → SameWithin r s
-    → (answerOf (withReserved i r) ≡ answerOf (withReserved i s)) × (placesOf (withReserved i r) places ≡ placesOf (withReserved i s) places)
+    → (answerOf (withReserved i r) ≡ answerOf (withReserved i s))
+    × (placesOf (withReserved i r) places ≡ placesOf (withReserved i s) places)
+    × (measurementOf (withReserved i r) ≡ measurementOf (withReserved i s))

@@ -20,8 +20,14 @@ use Rattle.policy_record.specs.Record.{policyType, LIST}
 use Rattle.policy_record.specs.Meaning as records
 use Rattle.decision.specs.Meaning as decision
 use Rattle.launch.specs.declared.Platform.{Platform}
+use Rattle.launch.specs.declared.ReservedRanges.{ReservedRanges}
 use Rattle.launch.specs.declared.Found.{Found}
 use Rattle.launch.specs.Rules.{Input, mostWindow, mostHeap, mostStm, mostReserved, dprRange, reservedNumbers, chipsetOf, foundOf, os, moduleData, memory, policyFile, criteria}
+
+-- 1, of the reserved ranges
+pub record ReservedHold (r : ReservedRanges) : Type 0 where
+  pub most : r .count ≤ mostReserved
+  pub ends : Every (λ (a : Range). endOf a ≤ highestEnd) (rangesOf (reservedNumbers r))
 
 -- 1
 pub record PlatformHolds (window heap stm : List ℕ) (p : Platform) : Type 0 where
@@ -32,8 +38,7 @@ pub record PlatformHolds (window heap stm : List ℕ) (p : Platform) : Type 0 wh
   pub windowEnd : endOf (windowOf window (p .«window_base»)) ≤ highestEnd
   pub heapEnd : p .«heap_base» + length heap ≤ highestEnd
   pub dprEnd : endOf (dprRange p) ≤ highestEnd
-  pub reservedMost : p .reserved .count ≤ mostReserved
-  pub reservedEnds : Every (λ (r : Range). endOf r ≤ highestEnd) (rangesOf (reservedNumbers (p .reserved)))
+  pub reserved : ReservedHold (p .reserved)
 
 -- 26 to 29, by what the launch finds
 pub record ListPermits (window policyRecord stm : List ℕ) (f : Found) : Type 0 where

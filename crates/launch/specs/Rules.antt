@@ -98,7 +98,8 @@ platformTests window heap stm p =
     ∷ endsBy (windowOf window (p .«window_base»)) highestEnd
     ∷ endsBy (record { base = p .«heap_base»; size = length heap }) highestEnd
     ∷ endsBy (dprRange p) highestEnd
-    ∷ reservedTests (p .reserved)
+    ∷ all (reservedTests (p .reserved))
+    ∷ []
 
 -- 12 and 13. "page list shorter than N"
 abbrev pub sizeRules : ℕ → ℕ → List Rule

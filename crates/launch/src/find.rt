@@ -47,8 +47,8 @@ fn reserved_holds(reserved: ReservedRanges) -> bool
         return false;
     }
     let numbers = reserved.numbers;
-    let end = 2 * reserved.count as usize;
-    range::all_meet(Condition::EndsBy(HIGHEST_END), &numbers[..end])
+    let length = 2 * reserved.count as usize;
+    range::all_meet(Condition::EndsBy(HIGHEST_END), &numbers[..length])
 }
 
 // Rule 1.

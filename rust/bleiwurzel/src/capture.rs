@@ -55,10 +55,10 @@ fn number<const N: usize>(head: &[u8], at: usize) -> u64 {
     u64::from_le_bytes(bytes)
 }
 
-fn platform(head: &[u8], layout: &Layout) -> Platform {
+fn platform(head: &[u8], layout: &Layout) -> Result<Platform, Fault> {
     let range = |at| MemoryRange { base: number::<8>(head, at), size: number::<8>(head, at + 8) };
     let ranges: Vec<MemoryRange> = (0..layout.ranges).map(|index| range(Layout::range(index))).collect();
-    Platform {
+    Ok(Platform {
         window_base: number::<8>(head, 5),
         heap_base: number::<8>(head, 13),
         sinit_base: number::<8>(head, 21),
@@ -68,9 +68,8 @@ fn platform(head: &[u8], layout: &Layout) -> Platform {
         vendor: number::<2>(head, 53) as u16,
         device: number::<2>(head, 55) as u16,
         revision: number::<2>(head, 57) as u16,
-        // There are not too many: the layout was read.
-        reserved: Reserved::new(&ranges).unwrap_or_default(),
-    }
+        reserved: Reserved::new(&ranges).map_err(|_| layout.too_many())?,
+    })
 }
 
 /// The parts and the platform of a capture.
@@ -94,7 +93,7 @@ pub fn split(capture: &[u8]) -> Result<(Parts<'_>, Platform), Fault> {
     let (window, rest) = rest.split_at(lengths[0] as usize);
     let (heap, rest) = rest.split_at(lengths[1] as usize);
     let (sinit, record) = rest.split_at(lengths[2] as usize);
-    Ok((Parts { window, heap, sinit, record, stm: &[] }, platform(capture, &layout)))
+    Ok((Parts { window, heap, sinit, record, stm: &[] }, platform(capture, &layout)?))
 }
 
 /// The capture of these parts: of version 2 where the platform has reserved ranges, else of version 1.

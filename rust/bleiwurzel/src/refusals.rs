@@ -68,8 +68,8 @@ minus the window base. KiB and MiB are powers of two.
 Where the platform's numbers come from: TXT.HEAP.BASE and TXT.HEAP.SIZE (offsets 0x300 and 0x308 of the TXT registers), TXT.SINIT.BASE
 (0x270), TXT.DIDVID (0x110: vendor bits 0 to 15, device 16 to 31, revision 32 to 47), TXT.DPR (0x330: the address above its last byte in
 bits 20 to 31, its size in MiB in bits 4 to 11; newer platforms have it in PCI configuration space instead, see their data sheet). The
-ACRAM capacity is what GETSEC[PARAMETERS] reports. The reserved ranges are those of the firmware's memory map (`/proc/iomem`, or the lines BIOS-e820 of
-the kernel's log) that are no usable memory.
+ACRAM capacity is what GETSEC[PARAMETERS] reports. The reserved ranges are all that the host's memory map (`/proc/iomem`, or the lines BIOS-e820 of
+the kernel's log) does not list as usable memory, but for the DPR, where the image lies in it.
 
 | No. | Meaning |
 |---|---|
@@ -142,7 +142,7 @@ pub static TEXTS: [Text; 33] = [
             "The window file is a dump of more memory than image, tables and policy file take.",
             "The heap file is a dump of the whole TXT region and not of the heap alone.",
             "The STM file is a dump of all of SMRAM or MSEG and not the STM's static image.",
-            "A program hands over every range of the firmware's memory map, and these are more than 16.",
+            "A program hands over every range of the host's memory map, and these are more than 16.",
         ],
         technician: &[
             "Compare the platform numbers that were handed over with the host's registers, digit by digit.",
@@ -431,19 +431,22 @@ pub static TEXTS: [Text; 33] = [
             "The loader put tables into low memory.",
             "The image was loaded over memory that the firmware of this host keeps, for instance for ACPI tables or for a device.",
             "The reserved ranges are those of a memory map that lists the DPR too, and the image lies in the DPR.",
+            "The memory map is that of a host which the image itself had started; it may list the image's own place as reserved.",
+            "The memory map is another host's, or not whole: what it does not list as usable memory counts as reserved.",
         ],
         technician: &[
             "Compare heap base and SINIT base with TXT.HEAP.BASE and TXT.SINIT.BASE of this host; after a firmware update they may have moved.",
             "If they are right, the image's place collides with them on this host.",
-            "If it is a reserved range, look for its addresses in the firmware's memory map of this very host (`/proc/iomem`, read as root, or `dmesg | \
-             grep BIOS-e820`); lines that adjoin there may be one range here. If they are not reserved there, the range is another host's, or the map \
-             has changed with the firmware: take it anew, `bleiwurzel check --reserved-from FILE ..`.",
-            "If they are reserved there and are the DPR, where the image belongs, name the other ranges alone: `bleiwurzel check --reserved BASE+SIZE ..`. Else hand the \
-             range and the page to the image's builder.",
+            "If it is a reserved range, look for its addresses in the memory map of this very host (`/proc/iomem`, read as root, or `dmesg | \
+             grep BIOS-e820`); lines that adjoin there may be one range here. If all of them are usable memory there and nothing else, the range is another \
+             host's, or the map has changed with the firmware: take it anew, `bleiwurzel check --reserved-from FILE ..`.",
+            "If they are not usable there and are the DPR, where the image belongs, name the other ranges alone: `bleiwurzel check --reserved BASE+SIZE ..`. \
+             If they are the image's own place, and it had started the host, take the map of a start without it, or name the other ranges likewise. Else \
+             hand the range and the page to the image's builder.",
         ],
         builder: &[
             "Have the loader read TXT.HEAP.BASE and TXT.SINIT.BASE and place tables and image clear of both, and above 1 MiB.",
-            "Place tables and image elsewhere, in memory that the firmware's map calls usable on every host that starts the image.",
+            "Place tables and image elsewhere, in memory that the memory map calls usable on every host that starts the image.",
         ],
     },
     Text {
@@ -755,7 +758,7 @@ pub static TEXTS: [Text; 33] = [
         rule: "A capture is the mark `LPC`, a version (16 bits at 3) of 1 or 2, the platform (six 64-bit numbers from 5, three 16-bit numbers from 53), \
             four lengths (32 bits each from 59), then the four parts; 75 bytes plus the lengths is the file's size, at most 65,536. Version 2 has a \
             count of reserved ranges (16 bits at 59, at most 16) and that many pairs of base and size (64 bits each from 61) before the \
-            lengths, which begin at 61 + 16·count; of it 77 + 16·count bytes stand before the parts.",
+            lengths, which begin at 61 + 16·count; its head, all that is before the parts, has 77 + 16·count bytes.",
         causes: &[
             "Another file was given, or the transfer cut it off or changed line ends.",
             "The image is too large for a capture.",

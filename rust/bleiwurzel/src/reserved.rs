@@ -1,4 +1,5 @@
-//! The ranges of physical memory that a platform reserves, besides the one below 1 MiB. No table and no page of an image may touch one.
+//! The ranges of physical memory that a platform reserves. No table and no page of an image may touch one, nor 0xA0000 to 0xFFFFF, the heap or the
+//! module.
 
 use crate::MOST_RESERVED;
 use std::fmt;

@@ -389,6 +389,7 @@ fn the_texts_say_the_same_limits() {
         ("docs/DIFFERENCES.md", format!("window at most {window} MiB,")),
         ("docs/DIFFERENCES.md", format!("at most {pages} pages |")),
         ("docs/DIFFERENCES.md", format!("at most {tables} table pages,")),
+        ("docs/DIFFERENCES.md", format!("up to {MOST_RESERVED} of them")),
         ("docs/REFUSALS.md", format!("window at most {} bytes;", grouped(MOST_WINDOW))),
         ("docs/REFUSALS.md", format!("one window of at most {window} MiB holds all of them")),
         ("docs/REFUSALS.md", format!("in one window of at most {window} MiB, and")),
@@ -429,7 +430,7 @@ fn the_texts_say_the_same_layout_of_captures() {
         ("docs/REFUSALS.md", format!("pairs of base and size (64 bits each from {first})")),
         (
             "docs/REFUSALS.md",
-            format!("which begin at {first} + {range}·count; of it {head_2} + {range}·count bytes stand before the parts."),
+            format!("which begin at {first} + {range}·count; its head, all that is before the parts, has {head_2} + {range}·count bytes."),
         ),
         ("include/bleiwurzel.h", format!("{head} bytes before the parts, at most {} in all", capture::MOST)),
         ("include/bleiwurzel.h", format!("{head_2} bytes and {range} for each range before the parts")),

@@ -59,6 +59,7 @@ fn by_flags() {
     misused(&check(&["--reserved", "0x104000+1k"]), "--reserved: '1k' is no number");
     misused(&check(&["--reserved", "18446744073709551616+1"]), "--reserved: '18446744073709551616' does not fit into 64 bits");
     misused(&check(&["--reserved"]), "a value is missing after --reserved");
+    misused(&run(&["check", "--window", "-", "--reserved", "-"]), "--reserved: '-' is no range");
     misused(&check(&["--dpr-size", "0", "--dpr-size", "0"]), "--dpr-size is given twice");
 }
 
@@ -86,6 +87,33 @@ fn by_the_file_and_by_flags() {
     std::fs::write(&file, "reserve = 1+1\n").expect("a platform file");
     misused(&run(&words), "there is no key 'reserve'; the keys are window_base, ");
     assert!(run(&words).err.contains(", revision, reserved\n"));
+}
+
+/// An answer says how many ranges counted: a permission to people where there are some, and every answer to programs.
+#[test]
+fn how_many_ranges_counted() {
+    let folder = folder("how_many_ranges_counted");
+    let output = folder.join("made.cap").to_string_lossy().into_owned();
+    let image = "  image   2 pages, in linear order\n          0x0000000000103000 to 0x0000000000104fff  2 pages\n";
+    let list = "  list    none: the policy is ANY\n";
+    let free = [(0x105000, 1), (0, 0), (0x105000, 1)];
+    for (count, clear) in [(0, ""), (1, "  clear   of 1 reserved range\n"), (3, "  clear   of 3 reserved ranges\n")] {
+        let words = words(&folder, &free[..count]);
+        let _ = std::fs::remove_file(&output);
+        yes(&run_with(&["capture", "make"], &words, &["--output", &output]));
+        let more = |more| [run_with(&["check"], &words, more), run_with(&["check", "--capture", &output], &[], more)];
+        for (text, json) in more(&[]).iter().zip(more(&["--json"])) {
+            yes(text);
+            assert!(text.out.starts_with(&format!("permitted\n\n{image}{clear}{list}")), "{}", text.out);
+            assert!(is_json(&json.out) && json.out.ends_with(&format!("\", \"reserved\": {count}}}\n")), "{}", json.out);
+        }
+        let refused = run_with(&["check"], &words, &["--dpr-size", "0", "--json"]).out;
+        assert!(is_json(&refused) && refused.starts_with("{\"answer\": \"refused\", \"number\": 20, "), "{refused}");
+        assert!(refused.ends_with(&format!("], \"reserved\": {count}}}\n")), "{refused}");
+    }
+    std::fs::write(&output, "no capture").expect("a file");
+    let none = run(&["check", "--capture", &output, "--json"]).out;
+    assert!(is_json(&none) && none.contains(" \"number\": 30, ") && none.ends_with("], \"reserved\": null}\n"), "{none}");
 }
 
 #[test]
@@ -178,8 +206,8 @@ const E820: &str = "\
 [    0.000000] BIOS-e820: [mem 0x0000000000000000-0x000000000009fbff] usable
 [    0.000000] BIOS-e820: [mem 0x000000000009fc00-0x000000000009ffff] reserved
 [    0.000000] BIOS-e820: [mem 0x0000000000100000-0x0000000000103fff] usable
-BIOS-e820: [mem 0x0000000000104000-0x0000000000104fff] ACPI NVS
-kernel: BIOS-e820: [mem 0x0000000000105000-0x00000000001fffff] reserved
+BIOS-e820: [mem 0x0000000000104000-0x00000000001047ff] ACPI NVS
+kernel: BIOS-e820: [mem 0x0000000000104800-0x00000000001fffff] reserved
 [    0.000390] e820: update [mem 0x00103000-0x00103fff] usable ==> reserved
 ";
 
@@ -194,10 +222,12 @@ fn from_a_memory_map() {
     };
     yes(&check(IOMEM, &[]));
     let used = IOMEM.replace("00104fff : System RAM\n", "00103fff : System RAM\n00104000-00104fff : ACPI Tables\n");
-    refused(&check(&used, &[]), 17, "clear of reserved range 0, 0x104000 to 0x1fffff");
+    refused(&check(&used, &[]), 17, "clear of reserved range 0, 0x104000 to 0x104fff");
     refused(&check(E820, &[]), 17, "clear of reserved range 0, 0x104000 to 0x1fffff");
     refused(&check(E820, &["--reserved", "0x105000+1"]), 17, "clear of reserved range 1, 0x104000 to 0x1fffff");
-    yes(&check(&E820.replace("ACPI NVS", "usable"), &[]));
+    let usable = E820.replace("ACPI NVS", "usable");
+    refused(&check(&usable, &[]), 17, "clear of reserved range 0, 0x104800 to 0x1fffff");
+    yes(&check(&usable.replace("] reserved", "] usable"), &[]));
     let given = ["--reserved-from", "-"].into_iter().chain(words.iter().map(String::as_str));
     let given: Vec<&str> = ["check"].into_iter().chain(given).collect();
     assert_eq!(ran(run_on(E820.as_bytes(), &given)).out, check(E820, &[]).out);
@@ -212,6 +242,40 @@ fn from_a_memory_map() {
     misused(&endless, "'/dev/zero' is no memory map: it has over 16777216 bytes");
 }
 
+/// Memory that all of the window is a part of.
+const USABLE: &str = "00000000-7fffffff : System RAM\n";
+
+/// What a map does not list as usable is reserved, and what it lists as reserved in some other form is not lost.
+#[test]
+fn from_a_memory_map_with_gaps() {
+    let folder = folder("reserved_from_a_map_with_gaps");
+    let words = words(&folder, &[]);
+    let map = folder.join("map.txt").to_string_lossy().into_owned();
+    let check = |text: &str| {
+        std::fs::write(&map, text).expect("a memory map");
+        run_with(&["check"], &words, &["--reserved-from", &map])
+    };
+    yes(&check(USABLE));
+    for text in ["fec00000-fec003ff : IOAPIC 0\n", "00000000-0009fbff : System RAM\n"] {
+        refused(&check(text), 17, "clear of reserved range 0, 0x100000 to 0x104fff");
+    }
+    refused(&check("00000000-00103fff : System RAM\n"), 17, "clear of reserved range 0, 0x104000 to 0x104fff");
+    for (line, last) in [
+        (" 00104000-001fffff : Reserved", "0x1fffff"),
+        ("00104000-001fffff: Reserved", "0x1fffff"),
+        ("  00104000-00104fff : Reserved", "0x104fff"),
+    ] {
+        let expected = format!("clear of reserved range 0, 0x104000 to {last} ");
+        refused(&check(&format!("{USABLE}{line}\n")), 17, &expected);
+    }
+    let old = " BIOS-e820: 0000000000104000 - 0000000000105000 (reserved)";
+    let message =
+        "map.txt', line 2: 'BIOS-e820: 0000000000104000 - 0000000000105000 (reserved)' is no whole line of a memory map";
+    misused(&check(&format!("{USABLE}{old}\n")), message);
+    let cut = E820.find("47ff] ACPI").expect("the line of the second page");
+    misused(&check(&E820[..cut]), "map.txt', line 5: 'BIOS-e820: [mem 0x0000000000104000-0x000000000010' is no whole line");
+}
+
 /// What is outside the window is left out: every table and page is inside. What is inside is as much as a platform has place for.
 #[test]
 fn more_ranges_than_a_platform_has() {
@@ -219,7 +283,7 @@ fn more_ranges_than_a_platform_has() {
     let spread = spread(BASE);
     let map = folder.join("map.txt").to_string_lossy().into_owned();
     let check = |image: &Image, text: &str| {
-        std::fs::write(&map, text).expect("a memory map");
+        std::fs::write(&map, USABLE.to_string() + text).expect("a memory map");
         run_with(&["check"], &written(&folder, image), &["--reserved-from", &map])
     };
     // Every other byte of a free page, and as many ranges outside the window, which ends at 0x130000.
@@ -258,9 +322,14 @@ fn a_capture_by_a_memory_map() {
     refused(&run(&["check", "--capture", &output]), 17, "clear of reserved range 0, 0x104000 to 0x1fffff");
 }
 
-/// Who takes a memory map is told of the DPR.
+/// Who takes a memory map is told where a good image is refused.
 #[test]
 fn what_the_help_says_of_a_memory_map() {
     let help = joined(&run(&["check", "--help"]).out);
-    assert!(help.contains("and then an image in the DPR is refused with 17"), "{help}");
+    for said in [
+        "and then an image in the DPR is refused with 17",
+        "may list the image's own place as reserved, and then a good image is refused with 17",
+    ] {
+        assert!(help.contains(said), "{help}");
+    }
 }

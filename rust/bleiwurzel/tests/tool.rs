@@ -19,7 +19,8 @@ fn a_permitted_capture() {
     assert_eq!((ran.status, ran.out.as_str(), ran.err.as_str()), (OK, shown_in_readme("permitted").as_str(), ""));
     let ran = run(&["check", "--json", "--capture", &stored("00-any-example.cap")]);
     let expected = "{\"answer\": \"permitted\", \"number\": 0, \"pages\": 2, \"ranges\": [{\"first\": \"0x104000\", \"last\": \"0x105fff\", \
-                    \"pages\": 2}], \"list\": null, \"digest\": \"b3f4315730049bde635935a7c5477b129df592e0a5a86dbd9886a57af0b1b399\"}\n";
+                    \"pages\": 2}], \"list\": null, \"digest\": \"b3f4315730049bde635935a7c5477b129df592e0a5a86dbd9886a57af0b1b399\", \
+                    \"reserved\": 0}\n";
     assert_eq!((ran.status, ran.out.as_str()), (OK, expected));
 }
 

@@ -4,7 +4,7 @@ use super::{fault, number, Fault, MARK, PARTS};
 use crate::{text, Reserved, MOST_RESERVED};
 
 /// The version without reserved ranges, and the one with them.
-const PLAIN: u16 = 1;
+const WITHOUT_RANGES: u16 = 1;
 const WITH_RANGES: u16 = 2;
 /// The offset of the version.
 const VERSION: usize = 3;
@@ -25,7 +25,7 @@ pub struct Layout {
 
 impl Layout {
     /// That of version 1, which has the shortest head.
-    pub const PLAIN: Layout = Layout { version: PLAIN, ranges: 0 };
+    pub const PLAIN: Layout = Layout { version: WITHOUT_RANGES, ranges: 0 };
 
     /// That of a capture which is made with these reserved ranges: version 1 where there are none.
     pub fn of(reserved: &Reserved) -> Self {
@@ -42,19 +42,24 @@ impl Layout {
             return Err(fault("the mark, offset 0", "4c 50 43, which is LPC", text::spaced(&capture[..MARK.len()])));
         }
         let layout = match number::<2>(capture, VERSION) as u16 {
-            PLAIN => Layout::PLAIN,
+            WITHOUT_RANGES => Layout::PLAIN,
             WITH_RANGES => Layout { version: WITH_RANGES, ranges: number::<COUNT_SIZE>(capture, REVISION_END) as usize },
             other => {
                 let place = format!("the version, offset {VERSION}");
-                return Err(fault(place, format!("{PLAIN} or {WITH_RANGES}"), other.to_string()));
+                return Err(fault(place, format!("{WITHOUT_RANGES} or {WITH_RANGES}"), other.to_string()));
             }
         };
         if layout.ranges > MOST_RESERVED {
-            let place = format!("the count of reserved ranges, offset {REVISION_END}");
-            return Err(fault(place, format!("at most {MOST_RESERVED}"), layout.ranges.to_string()));
+            return Err(layout.too_many());
         }
         layout.fits(capture)?;
         Ok(layout)
+    }
+
+    /// What is wrong where there are more reserved ranges than a platform has place for.
+    pub(super) fn too_many(&self) -> Fault {
+        let place = format!("the count of reserved ranges, offset {REVISION_END}");
+        fault(place, format!("at most {MOST_RESERVED}"), self.ranges.to_string())
     }
 
     /// Fails where a file is too short for the head.
@@ -70,7 +75,7 @@ impl Layout {
 
     /// Whether a count of reserved ranges stands behind the chipset's revision.
     pub(super) const fn has_count(&self) -> bool {
-        self.version != PLAIN
+        self.version != WITHOUT_RANGES
     }
 
     /// The offset of a reserved range, of which the base comes first.

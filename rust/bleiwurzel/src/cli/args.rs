@@ -80,9 +80,11 @@ impl Args {
         names.iter().copied().filter(|name| self.value(name).is_none()).collect()
     }
 
-    /// Fails where several files are to come from standard input, which can be read once.
+    /// Fails where several files are to come from standard input, which can be read once. Some flags have no file that is read.
     fn one_input(&self) -> Result<(), Misuse> {
-        let read = |(name, value): &&(String, OsString)| value == files::STANDARD && ![OUTPUT, RECORD].contains(&name.as_str());
+        let read = |(name, value): &&(String, OsString)| {
+            value == files::STANDARD && ![OUTPUT, RECORD, RESERVED].contains(&name.as_str())
+        };
         let flags: Vec<&str> = self.values.iter().filter(read).map(|(name, _)| name.as_str()).collect();
         if flags.len() > 1 {
             return misuse(self.help, format!("{} are all -, and standard input is one file; name the others", flags.join(", ")));

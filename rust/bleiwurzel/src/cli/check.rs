@@ -101,13 +101,14 @@ fn of_parts(loaded: &Loaded, platform: &Platform, json: bool) -> Said {
     let parts = loaded.parts();
     let mut pages = vec![0; MOST_PAGES];
     let (answer, digest) = bleiwurzel::answer_measured(&parts, platform, &mut pages);
+    let reserved = Some(platform.reserved.as_slice().len());
     match answer.result() {
-        Ok(permission) => report::permitted(&permission, &pages, json),
+        Ok(permission) => report::permitted(&permission, &pages, reserved, json),
         Err(refusal) => {
             // Before 29 the image is not hashed, and no finding asks for its digest.
             let at_hand = AtHand { lengths: loaded.lengths(), digest: Some(digest) };
             let found = finding::find_with(refusal, &parts, &at_hand, platform, pages.len());
-            report::refused(refusal, found.as_ref(), HELP, json)
+            report::not_permitted(refusal, found.as_ref(), reserved, HELP, json)
         }
     }
 }
@@ -124,11 +125,12 @@ fn of_capture(args: &Args) -> Result<Said, Misuse> {
     let file = files::read(path, capture::MOST as u64, "the capture", HELP)?;
     let mut pages = vec![0; capture::PLACES];
     let json = args.has("--json");
+    let reserved = capture::split(&file.bytes).ok().map(|(_, platform)| platform.reserved.as_slice().len());
     Ok(match bleiwurzel::check_capture(&file.bytes, &mut pages) {
-        Ok(permission) => report::permitted(&permission, &pages, json),
+        Ok(permission) => report::permitted(&permission, &pages, reserved, json),
         Err(refusal) => {
             let found = finding::find_in_capture(refusal, &file.bytes, pages.len()).map(|found| file.or_more(found));
-            report::refused(refusal, found.as_ref(), HELP, json)
+            report::not_permitted(refusal, found.as_ref(), reserved, HELP, json)
         }
     })
 }

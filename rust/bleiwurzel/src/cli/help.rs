@@ -65,16 +65,20 @@ are decimal, or hexadecimal with 0x:
                          32 to 47
   --reserved BASE+SIZE   memory that no table and no page may touch (17); may be
                          given several times, and is added to what the file
-                         has, up to 16 ranges in all. Without it only the range
-                         0xA0000 to 0xFFFFF, heap and SINIT module are kept
-                         clear
-  --reserved-from FILE   reserves what a memory map of the host lists in the
-                         window, usable memory apart: /proc/iomem, read as root,
-                         or the kernel's log with its lines BIOS-e820. Ranges
-                         that adjoin count as one. Most firmware lists the DPR,
-                         the TXT heap and SINIT memory there too, and then an
-                         image in the DPR is refused with 17: for such an image
-                         give ranges by --reserved instead
+                         has, up to 16 ranges in all. Where none is given, only
+                         the range 0xA0000 to 0xFFFFF, heap and SINIT module are
+                         kept clear
+  --reserved-from FILE   reserves all of the window but what a memory map of the
+                         host lists as usable memory, and as nothing else:
+                         /proc/iomem, read as root, or the kernel's log with its
+                         lines BIOS-e820. Ranges that adjoin count as one. The
+                         map may list the DPR, the TXT heap and SINIT memory as
+                         reserved, and then an image in the DPR is refused with
+                         17: for such an image give ranges by --reserved
+                         instead. The map of a host that the image itself has
+                         started may list the image's own place as reserved, and
+                         then a good image is refused with 17: take the map of a
+                         start without it, or give ranges by --reserved
 
 A platform file:
   window_base = 0x100000
@@ -92,7 +96,9 @@ A platform file:
 Answers:
   permitted   the image's pages as ranges of physical memory, the policy list
               that permits (counted from 0; none under ANY), and SHA-256 over
-              the pages. Exit status 0.
+              the pages; where there are reserved ranges, also of how many
+              the image is clear (in JSON \"reserved\", also where it is 0).
+              Exit status 0.
   refused     the number, what it means, what was found and where, and what to
               do. Exit status 1. The number is the proved check's, and so is
               the place of a 27, as in \"refused 27 at 36\": the offset of the
@@ -113,7 +119,7 @@ Examples:
     bleiwurzel check .. --platform host17.txt --stm stm.bin
   The same, if there were no DPR:
     bleiwurzel check .. --platform host17.txt --dpr-size 0
-  The same, clear of what the host's memory map lists as reserved:
+  The same, in nothing but what the host's memory map lists as usable memory:
     bleiwurzel check .. --platform host17.txt --reserved-from iomem.txt
 ";
 

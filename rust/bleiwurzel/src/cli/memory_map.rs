@@ -1,15 +1,22 @@
-//! The memory map that a running Linux shows: /proc/iomem, or the lines of the kernel's log with what the firmware said at the start (e820). All
-//! that it lists in the window besides usable memory is reserved. Both forms name the last byte of a range, not its end.
+//! The memory map of a host: its /proc/iomem, or the lines of its kernel's log with what the firmware said at the start (e820). All of the window is
+//! reserved but what the map lists as usable memory and as nothing else.
+
+mod lines;
 
 use super::args::Args;
 use super::{files, misuse, Misuse};
 use bleiwurzel::{MemoryRange, Platform};
+use lines::Kind;
+use std::ops::Range;
 
 /// The flag of its file.
 pub const FLAG: &str = "--reserved-from";
 
 /// More than a kernel's log has.
 const MOST_TEXT: u64 = 16 << 20;
+
+/// Addresses. An end may be above 2^64, and does not wrap.
+type Span = Range<u128>;
 
 /// Adds to the platform what the file of the flag reserves in the window. Every table and page lies in the window, by rule 15, so that ranges
 /// outside do not matter.
@@ -23,81 +30,91 @@ pub fn reserve(args: &Args, window: &[u8], platform: &mut Platform, help: &'stat
     if file.length.more {
         return misuse(help, format!("{name} is no memory map: it has over {MOST_TEXT} bytes"));
     }
-    let all = reserved(&String::from_utf8_lossy(&file.bytes)).or_else(|why| misuse(help, format!("{name} {why}")))?;
-    let window = MemoryRange { base: platform.window_base, size: window.len() as u64 };
-    let inside: Vec<MemoryRange> = all.into_iter().filter(|range| range.touches(&window)).collect();
+    let map = lines::read(&String::from_utf8_lossy(&file.bytes)).or_else(|why| misuse(help, format!("{name}{why}")))?;
+    let base = u128::from(platform.window_base);
+    let inside = reserved(&map, base..base + window.len() as u128);
     let count = platform.reserved.as_slice().len() + inside.len();
-    inside.iter().try_for_each(|range| platform.reserved.push(*range)).or_else(|why| {
+    inside.into_iter().try_for_each(|span| platform.reserved.push(range(span))).or_else(|why| {
         let remedy = "dump a smaller window, which holds tables, image and policy file and little else";
         misuse(help, format!("{why}, and with those of {name} in the window there are {count}; {remedy}"))
     })
 }
 
-/// A line of the map: first byte, last byte, and whether it is usable memory. A line of /proc/iomem with blanks before it is a part of another.
-fn line(line: &str) -> Option<(u64, u64, bool)> {
-    let (range, kind, usable) = match line.split_once("BIOS-e820: [mem ") {
-        Some((_, rest)) => rest.split_once("] ").map(|(range, kind)| (range, kind, "usable"))?,
-        None => line.split_once(" : ").map(|(range, kind)| (range, kind, "System RAM"))?,
-    };
-    let address = |digits: &str| u64::from_str_radix(digits.strip_prefix("0x").unwrap_or(digits), 16).ok();
-    let (first, last) = range.split_once('-')?;
-    Some((address(first)?, address(last)?, kind.trim_end() == usable)).filter(|(first, last, _)| first <= last)
+/// What of the window no line lists as usable, and all of each line that touches the window and is not usable, also where another lists it as usable.
+fn reserved(map: &[(Span, Kind)], window: Span) -> Vec<Span> {
+    let of = |kind| map.iter().filter(move |(_, listed)| *listed == kind).map(|(span, _)| span.clone());
+    let mut all: Vec<Span> = of(Kind::NotUsable).filter(|span| span.start.max(window.start) < span.end.min(window.end)).collect();
+    let mut from = window.start;
+    for usable in joined(of(Kind::Usable).collect()).into_iter().chain(std::iter::once(window.end..window.end)) {
+        all.push(from..usable.start.min(window.end));
+        from = from.max(usable.end);
+    }
+    joined(all)
 }
 
-/// What is not usable memory, in rising order; ranges that overlap or adjoin are joined.
-fn reserved(text: &str) -> Result<Vec<MemoryRange>, &'static str> {
-    let mut lines: Vec<(u64, u64, bool)> = text.lines().filter_map(line).collect();
-    if lines.is_empty() {
-        return Err("has no line of a memory map; give /proc/iomem, or the kernel's log with its lines BIOS-e820 (dmesg)");
-    }
-    if lines.iter().all(|(_, last, _)| *last == 0) {
-        return Err("has nothing but zeros for addresses: Linux shows them to root alone, so read it as root");
-    }
-    lines.sort_unstable();
-    let mut joined: Vec<(u64, u64)> = Vec::new();
-    for (first, last, _) in lines.into_iter().filter(|(_, _, usable)| !usable) {
+/// The same addresses in rising order; what overlaps or adjoins is one span.
+fn joined(mut spans: Vec<Span>) -> Vec<Span> {
+    spans.retain(|span| !span.is_empty());
+    spans.sort_unstable_by_key(|span| span.start);
+    let mut joined: Vec<Span> = Vec::new();
+    for span in spans {
         match joined.last_mut() {
-            Some((_, end)) if first <= end.saturating_add(1) => *end = last.max(*end),
-            _ => joined.push((first, last)),
+            Some(last) if span.start <= last.end => last.end = last.end.max(span.end),
+            _ => joined.push(span),
         }
     }
-    // A range of 2^64 bytes is a byte short here; it ends above 2^52 all the same.
-    Ok(joined.into_iter().map(|(base, last)| MemoryRange { base, size: (last - base).saturating_add(1) }).collect())
+    joined
+}
+
+/// A span as the platform has it. What 64 bits do not hold is cut; it ends above 2^52 all the same, which rule 1 refuses.
+fn range(span: Span) -> MemoryRange {
+    let cut = |number| u64::try_from(number).unwrap_or(u64::MAX);
+    MemoryRange { base: cut(span.start), size: cut(span.end - span.start) }
 }
 
 #[cfg(test)]
 mod tests {
     use super::*;
 
-    fn held(text: &str, expected: &[(u64, u64)]) {
-        let found = reserved(text).expect("a memory map");
-        let found: Vec<(u64, u64)> = found.iter().map(|range| (range.base, range.size)).collect();
-        assert_eq!(found, expected, "{text}");
+    /// Holds what a map reserves in the window from 0x100 to 0x1ff: first bytes and last ones.
+    #[track_caller]
+    fn held(text: &str, expected: &[(u128, u128)]) {
+        let found = reserved(&lines::read(text).expect("a memory map"), 0x100..0x200);
+        assert_eq!(found.iter().map(|span| (span.start, span.end - 1)).collect::<Vec<_>>(), expected, "{text}");
     }
 
     #[test]
-    fn lines_of_both_forms() {
-        held("00001000-0009fbff : System RAM\n0009fc00-0009ffff : Reserved\n  0009fd00-0009ffff : ROM\n", &[(0x9fc00, 0x400)]);
-        held("[    0.000000] BIOS-e820: [mem 0x000000000009fc00-0x000000000009ffff] reserved\n", &[(0x9fc00, 0x400)]);
-        held("BIOS-e820: [mem 0x0000000000001000-0x000000000009fbff] usable\r\n", &[]);
-        held("fffffffffffffff0-ffffffffffffffff : a\n00000000-0000000f : b\n", &[(0, 16), (u64::MAX - 15, 16)]);
+    fn what_is_not_listed_as_usable() {
+        held("0-ff : System RAM\n200-2ff : System RAM\n", &[(0x100, 0x1ff)]);
+        held("180-2ff : System RAM\n0-17f : System RAM\n", &[]);
+        held("101-1fe : System RAM\n", &[(0x100, 0x100), (0x1ff, 0x1ff)]);
+        held("110-13f : System RAM\n118-11f : System RAM\n141-1ff : System RAM\n", &[(0x100, 0x10f), (0x140, 0x140)]);
+        held("0-17f : System RAM\n180-1ff : Kernel code\n", &[(0x180, 0x1ff)]);
     }
 
     #[test]
-    fn ranges_that_overlap_or_adjoin_are_joined() {
-        held("20-2f : b\n10-1f : a\n", &[(0x10, 0x20)]);
-        held("10-1f : a\n21-2f : b\n", &[(0x10, 0x10), (0x21, 0xf)]);
-        held("10-3f : a\n18-1f : b\n20-47 : c\n", &[(0x10, 0x38)]);
-        held("0-ffffffffffffffff : a\n5-6 : b\n", &[(0, u64::MAX)]);
-    }
-
-    #[test]
-    fn texts_that_are_no_map() {
-        for (text, why) in [("", "no line"), ("reserved = 1+2\n", "no line"), ("2-1 : a\n", "no line")] {
-            assert!(reserved(text).expect_err("no map").contains(why), "{text}");
+    fn what_is_listed_as_something_else_too() {
+        for (more, expected) in [
+            ("110-11f : Kernel code\n120-12f : Crash kernel", &[][..]),
+            ("130-13f : b\n110-11f : a\n120-12f : c\n128-137 : d", &[(0x110, 0x13f)]),
+            ("110-11f : a\n121-12f : b", &[(0x110, 0x11f), (0x121, 0x12f)]),
+            ("0-ff : a\n200-2ff : b", &[]),
+            ("0-100 : a\n1ff-2ff : b", &[(0, 0x100), (0x1ff, 0x2ff)]),
+            ("0-ffffffffffffffff : a", &[(0, u64::MAX as u128)]),
+        ] {
+            held(&format!("0-ffffffffffffffff : System RAM\n{more}\n"), expected);
         }
-        let hidden = "00000000-00000000 : Reserved\n00000000-00000000 : System RAM\n";
-        assert!(reserved(hidden).expect_err("no map").contains("read it as root"));
-        held("00000000-00000000 : Reserved\n00000000-00000001 : System RAM\n", &[(0, 1)]);
+    }
+
+    #[test]
+    fn windows_without_bytes_and_at_the_end() {
+        let map = lines::read("0-ff : a\nfffffffffffffff0-ffffffffffffffff : System RAM\n").expect("a memory map");
+        let top = 1 << 64;
+        assert_eq!(reserved(&map, 0x80..0x80), []);
+        assert_eq!(reserved(&map, top - 32..top + 16), [top - 32..top - 16, top..top + 16]);
+        for (span, base, size) in [(5..8, 5, 3), (top - 1..top, u64::MAX, 1), (0..top, 0, u64::MAX), (top..top + 2, u64::MAX, 2)]
+        {
+            assert_eq!(range(span), MemoryRange { base, size });
+        }
     }
 }

@@ -2,7 +2,7 @@
 
 use super::json::{hex, texts, Json};
 use super::wrap::{points, wrapped};
-use super::{Said, NO, YES};
+use super::{platform, Said, NO, YES};
 use bleiwurzel::finding::{Field, Finding};
 use bleiwurzel::refusals::Text;
 use bleiwurzel::text::{counted, digits};
@@ -24,16 +24,28 @@ fn pages(count: u64) -> String {
     counted(count, "page")
 }
 
-pub fn permitted(permission: &Permission, list: &[u64], json: bool) -> Said {
+/// A permission on a platform with so many reserved ranges.
+pub fn permitted(permission: &Permission, list: &[u64], reserved: Option<usize>, json: bool) -> Said {
     let ranges = ranges(&list[..permission.pages]);
-    let text = if json { permitted_json(permission, &ranges).line() } else { permitted_text(permission, &ranges) };
+    let text = match json {
+        true => permitted_json(permission, &ranges, reserved).line(),
+        false => permitted_text(permission, &ranges, reserved),
+    };
     Said { text, status: YES }
 }
 
-fn permitted_text(permission: &Permission, ranges: &[(u64, u64)]) -> String {
+/// How many reserved ranges there are; null where that is not known.
+fn reserved_json(reserved: Option<usize>) -> (&'static str, Json) {
+    (platform::RESERVED, reserved.map_or(Json::Null, Json::from))
+}
+
+fn permitted_text(permission: &Permission, ranges: &[(u64, u64)], reserved: Option<usize>) -> String {
     let mut text = format!("permitted\n\n  image   {}, in linear order\n", pages(permission.pages as u64));
     for (first, count) in ranges {
         text.push_str(&format!("          {first:#018x} to {:#018x}  {}\n", first + PAGE_SIZE * count - 1, pages(*count)));
+    }
+    if let Some(count @ 1..) = reserved {
+        text.push_str(&format!("  clear   of {}\n", counted(count as u64, "reserved range")));
     }
     match permission.list {
         Some(list) => text.push_str(&format!("  list    {list}, the lowest that permits, counted from 0\n")),
@@ -43,7 +55,7 @@ fn permitted_text(permission: &Permission, ranges: &[(u64, u64)]) -> String {
     text
 }
 
-fn permitted_json(permission: &Permission, ranges: &[(u64, u64)]) -> Json {
+fn permitted_json(permission: &Permission, ranges: &[(u64, u64)], reserved: Option<usize>) -> Json {
     let range = |(first, count): &(u64, u64)| {
         Json::Object(vec![("first", hex(*first)), ("last", hex(first + PAGE_SIZE * count - 1)), ("pages", Json::from(*count))])
     };
@@ -54,6 +66,7 @@ fn permitted_json(permission: &Permission, ranges: &[(u64, u64)]) -> Json {
         ("ranges", Json::List(ranges.iter().map(range).collect())),
         ("list", permission.list.map_or(Json::Null, |list| Json::from(u32::from(list)))),
         ("digest", Json::from(digits(&permission.digest))),
+        reserved_json(reserved),
     ])
 }
 
@@ -64,8 +77,20 @@ pub fn refused(refusal: Refusal, finding: Option<&Finding>, command: &str, json:
 
 /// The same with lines that show the place to people; they follow the finding.
 pub fn refused_in(refusal: Refusal, finding: Option<&Finding>, lines: &str, command: &str, json: bool) -> Said {
-    let text = if json { refused_json(refusal, finding, command).line() } else { refused_text(refusal, finding, lines, command) };
+    let text = match json {
+        true => Json::Object(refused_json(refusal, finding, command)).line(),
+        false => refused_text(refusal, finding, lines, command),
+    };
     Said { text, status: NO }
+}
+
+/// A refusal of the check on a platform with so many reserved ranges; of a file that is no capture their number is not known.
+pub fn not_permitted(refusal: Refusal, finding: Option<&Finding>, reserved: Option<usize>, command: &str, json: bool) -> Said {
+    if !json {
+        return refused(refusal, finding, command, json);
+    }
+    let members = refused_json(refusal, finding, command).into_iter().chain([reserved_json(reserved)]).collect();
+    Said { text: Json::Object(members).line(), status: NO }
 }
 
 /// What a technician checks, without the advice to run the command that is running.
@@ -108,7 +133,7 @@ fn field_json(field: &Field) -> Json {
     ])
 }
 
-fn refused_json(refusal: Refusal, finding: Option<&Finding>, command: &str) -> Json {
+fn refused_json(refusal: Refusal, finding: Option<&Finding>, command: &str) -> Vec<(&'static str, Json)> {
     let about = refusal.text();
     let found = finding.map_or(Json::Null, |finding| {
         Json::Object(vec![
@@ -119,7 +144,7 @@ fn refused_json(refusal: Refusal, finding: Option<&Finding>, command: &str) -> J
             ("notes", texts(&finding.notes)),
         ])
     });
-    Json::Object(vec![
+    vec![
         ("answer", Json::from("refused")),
         ("number", Json::from(refusal.number)),
         ("place", Json::from(refusal.place)),
@@ -128,7 +153,7 @@ fn refused_json(refusal: Refusal, finding: Option<&Finding>, command: &str) -> J
         ("finding", found),
         ("technician", about.map_or(Json::Null, |about| texts(&technician(about, command)))),
         ("builder", about.map_or(Json::Null, |about| texts(about.builder))),
-    ])
+    ]
 }
 
 #[cfg(test)]

@@ -75,6 +75,7 @@ fn up_to_the_highest_end() {
         ("the last byte", TOP - 1, 1, 17),
         ("the last byte and one more", TOP - 1, 2, 1),
         ("the byte before the last page", TOP - PAGE_BYTES - 1, 1, 0),
+        ("the first byte of the last page", TOP - PAGE_BYTES, 1, 17),
         ("no byte at the end", TOP, 0, 0),
     ] {
         assert_eq!(number_with(name, &image, (base, size)), number, "{name}");

@@ -41,7 +41,7 @@ memory-requires c κs = search needs
 find-pages-requires : tie.Need-find-pages-requires
 find-pages-requires c κs =
     let at-heap = c .before .before .before .before .before .before .before .before .before in
-    platform-exactly _ _ _ _ .0 (sym (at-heap .before .before .platform-holds .ensures) ∙ not-false _ (at-heap .before .if1 .left)) .reservedMost
+    platform-exactly _ _ _ _ .0 (sym (at-heap .before .before .platform-holds .ensures) ∙ not-false _ (at-heap .before .if1 .left)) .reserved .most
 
 returns-2 : tie.Need-returns-2
 returns-2 c =

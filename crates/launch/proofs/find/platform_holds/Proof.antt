@@ -58,10 +58,9 @@ returns-8 c =
       windowEnd = ends-exactly _ _ .0 (confirmed _ (at-window .ends .ensures) (at-heap .before .if5 .left));
       heapEnd = ends-exactly _ _ .0 (confirmed _ (at-heap .ends2 .ensures) (at-dpr .before .if6 .left));
       dprEnd = ends-exactly _ _ .0 (confirmed _ (at-dpr .ends3 .ensures) (c .before .if7 .left));
-      reservedMost = reserved-exactly _ .0 e .0;
-      reservedEnds = reserved-exactly _ .0 e .1;
+      reserved = reserved-exactly _ .0 e;
     })
-    (λ e h. true≢false (sym (reserved-exactly _ .1 (h .reservedMost, h .reservedEnds)) ∙ e))
+    (λ e h. true≢false (sym (reserved-exactly _ .1 (h .reserved)) ∙ e))
 
 pub platform-holds-spec : {M : Type 1} → statement M
 platform-holds-spec =

@@ -13,13 +13,13 @@ use Rattle.launch.proofs.find.reserved_holds.Statement.{statement}
 use Rattle.launch.proofs.find.reserved_holds.Tie as tie
 
 returns : tie.Need-returns
-returns c = fails (reserved-exactly _) (λ h. omega (arith, h .0))
+returns c = fails (reserved-exactly _) (λ h. omega (arith, h .most))
 
-cast-end : tie.Need-cast-end
-cast-end c = search needs
+cast-length : tie.Need-cast-length
+cast-length c = search needs
 
-mul-end : tie.Need-mul-end
-mul-end c = search needs
+mul-length : tie.Need-mul-length
+mul-length c = search needs
 
 array-share-prefix-numbers : tie.Need-array-share-prefix-numbers
 array-share-prefix-numbers c = search (needs, numbers-within)
@@ -37,4 +37,4 @@ returns-2 c = rw (le-leb _ _ (c .before .before .before .before .if1 .left)) (c 
 pub reserved-holds-spec : {M : Type 1} → statement M
 reserved-holds-spec =
     tie.close
-    (tie.spec returns cast-end mul-end array-share-prefix-numbers slice-aggregate-all-meet all-meet-requires returns-2)
+    (tie.spec returns cast-length mul-length array-share-prefix-numbers slice-aggregate-all-meet all-meet-requires returns-2)

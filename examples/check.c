@@ -90,7 +90,8 @@ static void build_record(void)
 {
     put(record, 0x0302, 2);
     put(record + 2, 0x000B, 2);
-    put(record + 4, 1, 1); /* ANY */
+    put(record + 4, 1, 1);       /* ANY */
+    put(record + 28, 0x0008, 2); /* LcpHashAlgMask permits SHA-256 */
 }
 
 /* A policy file of one list without elements, in the unused page, and a record that asks for it. */

@@ -67,13 +67,14 @@ enum bleiwurzel_number {
     BLEIWURZEL_TABLE_PAGES = 18,
     /* The image's linear pages do not follow one another: there is a gap. */
     BLEIWURZEL_LINEAR_GAP = 19,
-    /* Neither DPR nor the low PMR nor the high PMR holds all pages of the image. */
+    /* A table page lies wholly in none of DPR, low PMR and high PMR, or none of these holds all pages of the image. */
     BLEIWURZEL_NOT_PROTECTED = 20,
     /* The tables map another number of pages than MLE Size says. */
     BLEIWURZEL_PAGE_COUNT = 21,
     /* The MLE header is not mapped, crosses the end of its page, or has a field that does not fit the image. */
     BLEIWURZEL_MLE_HEADER = 22,
-    /* The policy record does not have 70 bytes, major version 3, HashAlg 0x000B and type LIST or ANY. */
+    /* The policy record does not have 70 bytes, major version 3, HashAlg 0x000B, type LIST or ANY, and in LcpHashAlgMask the bit 0x0008
+     * (SHA-256). */
     BLEIWURZEL_POLICY_RECORD = 23,
     /* The SINIT module is not production worthy (a debug or pre-production module), and the policy record does not allow that. */
     BLEIWURZEL_NOT_PRODUCTION = 24,
@@ -305,7 +306,8 @@ uint32_t bleiwurzel_policy_element_at(const uint8_t *file, size_t file_length, s
  *   control any number. So there are 1 + 2 * lists + 3 * elements numbers, in file order.
  *   bodies: the bodies of all elements, one behind the other in the same order and nothing else. A body of type 0x10 is SINITMinVersion (8 bits),
  *   reserved (8), HashAlg (16), count (16) and as many digests; one of type 3 is any bytes.
- *   fields: the first 38 bytes of the record, all that stands before PolicyHash. They are not judged; bleiwurzel_check judges some (23 to 25).
+ *   fields: the first 38 bytes of the record, all that stands before PolicyHash. They are not judged; bleiwurzel_check judges some (23 to 25),
+ *   among them LcpHashAlgMask, 16 bits at 28, without whose bit 0x0008 it refuses every image with 23.
  * Written: file, a buffer of `room` bytes: on 0 the policy file stands from its first byte on, and the bytes past the file stay; on a refusal
  * every byte stays. length always: how many bytes the file has, or 0 on a refusal. record always: the fields and behind them PolicyHash, which is
  * right for the file; or 70 zeros on a refusal.

@@ -122,25 +122,43 @@ static uint32_t measured(const uint8_t *stm, size_t stm_length, uint8_t digest[3
     return number;
 }
 
-/* Refusals before the policy is looked at: one of the heap, one of the module, one of the pages, and the first rule. */
+/* Refusals before a policy file is looked at: one of the heap, one of the module, one of the pages, one of the record, which does not permit SHA-256
+ * then, one of the pointer table and one of a page, which the DPR does not hold then, and the first rule. */
 static void refusals(void)
 {
     static const uint8_t zeros[32];
     uint8_t digest[32], measurement[32];
     const struct {
-        uint8_t *byte;
+        uint8_t *byte, changed;
         uint32_t number;
     } cases[] = {
-        { heap + 25, BLEIWURZEL_OSSINITDATA },
-        { sinit, BLEIWURZEL_MODULE_HEADER },
-        { window + 3 * PAGE + 8, BLEIWURZEL_PAGE_COUNT },
+        { heap + 25, 1, BLEIWURZEL_OSSINITDATA },
+        { sinit, 1, BLEIWURZEL_MODULE_HEADER },
+        { window + 3 * PAGE + 8, 1, BLEIWURZEL_PAGE_COUNT },
+        { record + 28, 8, BLEIWURZEL_POLICY_RECORD },
     };
     for (size_t i = 0; i < sizeof cases / sizeof cases[0]; i++) {
-        *cases[i].byte ^= 1;
+        *cases[i].byte ^= cases[i].changed;
         NEED(measured(zeros, 0, digest, measurement) == cases[i].number);
         NEED(memcmp(digest, zeros, 32) == 0 && memcmp(measurement, zeros, 32) == 0);
-        *cases[i].byte ^= 1;
+        *cases[i].byte ^= cases[i].changed;
     }
+    const struct bleiwurzel_platform before = platform;
+    const uint64_t tables = BASE + PAGE, size = sizeof window - PAGE; /* the window without its unused page */
+    const struct {
+        uint64_t base, size;
+        uint32_t number;
+    } regions[] = {
+        { tables, size, BLEIWURZEL_PERMITTED },
+        { tables + 1, size - 1, BLEIWURZEL_NOT_PROTECTED },
+        { tables, size - 1, BLEIWURZEL_NOT_PROTECTED },
+    };
+    for (size_t i = 0; i < sizeof regions / sizeof regions[0]; i++) {
+        platform.dpr_base = regions[i].base;
+        platform.dpr_size = regions[i].size;
+        NEED(measured(zeros, 0, digest, measurement) == regions[i].number);
+    }
+    platform = before;
     static uint8_t stm[BLEIWURZEL_MOST_STM + 1];
     NEED(measured(stm, sizeof stm, digest, measurement) == BLEIWURZEL_LIMITS);
 }

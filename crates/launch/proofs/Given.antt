@@ -144,6 +144,8 @@ module _ (i : Input) (places : List ℕ) (b : Bytes (i .window)) (told : length 
             (λ r h k x. rw (page-is k x) (h k x))
             (regions (memory i))
             (walked .protected);
+        tables = walks i says .tablesProtected;
+        mask = says .policyRecord .mask;
         digest = digest;
         anyList = any-list;
         lowest = lowest;

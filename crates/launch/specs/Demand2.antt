@@ -13,9 +13,10 @@ use Rattle.rules.specs.Rules.{Some}
 use Rattle.pages.specs.declared.Kind.the-variants.{Page}
 use Rattle.pages.specs.Entry.{addressOf}
 use Rattle.pages.specs.Memory.{pageOf, windowOf, regions}
-use Rattle.pages.specs.Meaning.{Within, Apart, entry, Present}
+use Rattle.pages.specs.Meaning.{Within, Apart, entry, Present, TablesProtected}
 use Rattle.policy_grammar.specs.Grammar.{Reading, Makes}
-use Rattle.policy_record.specs.Record.{policyType, LIST, ANY}
+use Rattle.policy_record.specs.Record.{policyType, LIST, ANY, lcpHashAlgMask, sha256Bit}
+use Rattle.policy_record.specs.Meaning.{Bit}
 use Rattle.answer.specs.Answer.{noList}
 use Rattle.decision.specs.Answers.{criteriaBy}
 use Rattle.decision.specs.Meaning.{SomePermits, Lowest}
@@ -51,6 +52,9 @@ module _ (i : Input) (places : List ℕ) where
     -- each lies in the window, and one of the regions that are protected against DMA holds them all
     pub inside : (k : ℕ) → k < N i → Within (pageOf (page k)) (windowOf (i .window) (i .platform .«window_base»))
     pub protected : Some (λ (r : Range). (k : ℕ) → k < N i → Within (pageOf (page k)) r) (regions (memory i))
+    -- under ANY and under LIST alike: every table page, the base too, lies in one of these regions, and LcpHashAlgMask has the bit for SHA-256
+    pub tables : TablesProtected (i .window) (memory i) (os i .«page_table_base»)
+    pub mask : Bit sha256Bit (lcpHashAlgMask (i .policyRecord))
     -- the digest is that of their bytes, joined
     pub digest : answerOf i .digest ≡ sha256 (flatMap memoryAt (take (N i) (placesOf i places)))
     -- "Under ANY the list is 255"; under LIST it permits this digest, and no lower one does

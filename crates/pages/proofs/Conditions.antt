@@ -7,7 +7,7 @@ use mathlib.Core.List.{List, [], _∷_}
 use lib.Dec.{lit<}
 use Rattle.range.specs.declared.Range.{Range}
 use Rattle.range.specs.Range.{insideOf, clearOf, pageSize}
-use Rattle.rules.specs.Rules.{Every, Some, AllHold}
+use Rattle.rules.specs.Rules.{Every, AllHold}
 use Rattle.rules.specs.Meaning.{AllSay}
 use Rattle.rules.proofs.Meaning.{Agree, all-say, agrees, agree-append}
 use Rattle.rules.proofs.Tests.{_&_, eqb-exactly, ltb-exactly, every-exactly, any-exactly}
@@ -15,10 +15,10 @@ use Rattle.range.proofs.Ranges.{inside-exactly, clear-exactly}
 use Rattle.pages.specs.declared.Kind.{Kind}
 use Rattle.pages.specs.declared.Kind.the-variants.{Pointer, Directory, Page}
 use Rattle.pages.specs.Entry.{addressOf}
-use Rattle.pages.specs.Memory.{Memory, pageOf, windowOf, forbidden, allowed, protected}
+use Rattle.pages.specs.Memory.{Memory, pageOf, windowOf, forbidden, regions, allowed, protected}
 use Rattle.pages.specs.Tables.{Found, found}
-use Rattle.pages.specs.Rules.{State, startOf, afterEntry, baseRules, ownRules, entryRules, rulesFrom, walkRules}
-use Rattle.pages.specs.Meaning.{Within, Apart, Reserved, Placed, baseMeanings, ownMeanings, entryMeanings, meaningsFrom, walkMeanings}
+use Rattle.pages.specs.Rules.{State, startOf, afterEntry, baseRules, tableRules, ownRules, entryRules, rulesFrom, walkRules}
+use Rattle.pages.specs.Meaning.{Within, Apart, Protected, Reserved, Placed, baseMeanings, tableMeanings, ownMeanings, entryMeanings, meaningsFrom, walkMeanings}
 use Rattle.pages.proofs.Tests.{follows-exactly}
 use Rattle.pages.proofs.Bits.{reserved-exactly}
 
@@ -31,7 +31,7 @@ within-exactly a b z = (inside-exactly a b .0, inside-exactly a b .1 z)
 pub page-within : (a : ℕ) (r : Range) → (insideOf (pageOf a) r ≡ true) ↔ Within (pageOf a) r
 page-within a r = within-exactly (pageOf a) r (lit< tt)
 
-protected-exactly : (rs : List Range) (a : ℕ) → (protected rs a ≡ true) ↔ Some (Within (pageOf a)) rs
+protected-exactly : (rs : List Range) (a : ℕ) → (protected rs a ≡ true) ↔ Protected rs (pageOf a)
 unfolding protected
 protected-exactly rs a = any-exactly (insideOf (pageOf a)) (Within (pageOf a)) (page-within a) rs
 
@@ -42,9 +42,12 @@ allowed-exactly m a = every-exactly (clearOf (pageOf a)) (Apart (pageOf a)) (cle
 -- RULES AND MEANINGS
 
 module _ (window : Range) (m : Memory) where
-  own-agree : (k : Kind) (s : State) (l a : ℕ) → Agree (ownRules k s l a) (ownMeanings k s l a)
-  own-agree Pointer s l a = (agrees (lit< tt) (ltb-exactly _ _), tt)
-  own-agree Directory s l a = (agrees (lit< tt) (ltb-exactly _ _), tt)
+  table-agree : (s : State) (a : ℕ) → Agree (tableRules m s a) (tableMeanings m s a)
+  table-agree s a = agrees (lit< tt) (ltb-exactly _ _) & agrees (lit< tt) (protected-exactly (regions m) a) & tt
+
+  own-agree : (k : Kind) (s : State) (l a : ℕ) → Agree (ownRules k m s l a) (ownMeanings k m s l a)
+  own-agree Pointer s l a = table-agree s a
+  own-agree Directory s l a = table-agree s a
   own-agree Page s l a = (agrees (lit< tt) (follows-exactly (s .first) (s .count) l), (agrees (lit< tt) (protected-exactly (s .common) a), tt))
 
   pub entry-agree : (k : Kind) (s : State) (l e : ℕ) → Agree (entryRules k window m s l e) (entryMeanings k window m s l e)
@@ -70,6 +73,7 @@ module _ (window : Range) (m : Memory) where
       agrees (lit< tt) (eqb-exactly _ _)
       & agrees (lit< tt) (page-within t window)
       & agrees (lit< tt) (allowed-exactly m t)
+      & agrees (lit< tt) (protected-exactly (regions m) t)
       & tt
 
 module _ (w : List ℕ) (m : Memory) (t : ℕ) where
@@ -93,7 +97,7 @@ module _ (w : List ℕ) (m : Memory) (t : ℕ) where
   pub record Fine (k : Kind) (s : State) (l e : ℕ) : Type 0 where
     pub sound : Sound k e
     pub above : s .last < addressOf e
-    pub own : AllSay (ownMeanings k s l (addressOf e))
+    pub own : AllSay (ownMeanings k m s l (addressOf e))
 
   pub fine-exactly : (k : Kind) (s : State) (l e : ℕ) → AllHold (entryRules k window m s l e) ↔ Fine k s l e
   fine-exactly k s l e =
@@ -108,9 +112,9 @@ module _ (w : List ℕ) (m : Memory) (t : ℕ) where
         λ h. say .1 (h .sound .reserved & h .sound .placed .inside & h .above & h .sound .placed .clear & h .own),
       )
 
-  pub base-exactly : AllHold (baseRules window m t) ↔ ((t % pageSize ≡ 0) × Placed w m t (pageOf t))
+  pub base-exactly : AllHold (baseRules window m t) ↔ ((t % pageSize ≡ 0) × (Placed w m t (pageOf t) × Protected (regions m) (pageOf t)))
   base-exactly =
       let say = all-say (baseRules window m t) (baseMeanings window m t) (base-agree window m t) in (
-        λ h. let x = say .0 h in (x .0, record { inside = x .1 .0; clear = x .1 .1 .0 }),
-        λ h. say .1 (h .0 & h .1 .inside & h .1 .clear & tt),
+        λ h. let x = say .0 h in (x .0, (record { inside = x .1 .0; clear = x .1 .1 .0 }, x .1 .1 .1 .0)),
+        λ h. say .1 (h .0 & h .1 .0 .inside & h .1 .0 .clear & h .1 .1 & tt),
       )

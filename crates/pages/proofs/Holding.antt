@@ -16,7 +16,7 @@ use Rattle.pages.specs.Entry.{presentOf, addressOf}
 use Rattle.pages.specs.Memory.{Memory, regions, holding}
 use Rattle.pages.specs.Tables.{levelSize, foundFrom}
 use Rattle.pages.specs.Rules.{State, mostTables, startOf, afterTable, afterPage, after, afterAll, entryRules, rulesFrom, walkRules, endState}
-use Rattle.pages.specs.Meaning.{Within, position, presentBelow, entry, Present, named, HoldsPages, ownMeanings, Walks}
+use Rattle.pages.specs.Meaning.{Within, position, presentBelow, entry, Present, named, Protected, HoldsPages, tableMeanings, ownMeanings, Walks}
 use Rattle.pages.proofs.Found.{below-none, below-present, below-absent, in-level}
 use Rattle.pages.proofs.Conditions.{window, Sound, Fine, fine-exactly, base-exactly}
 use Rattle.pages.proofs.Regions.{upto, Holds, common, common-absent, common-next, held-next}
@@ -70,11 +70,12 @@ module _ (w : List ℕ) (m : Memory) (t : ℕ) where
   -- A LEVEL OF TABLES, with n tables before it
 
   module _ (k : Kind) (table : (s : State) (l a : ℕ) → after k s l a ≡ afterTable s a)
-      (room : (s : State) (l a : ℕ) → AllSay (ownMeanings k s l a) → s .tables < mostTables) (a n : ℕ) where
+      (own : (s : State) (l a : ℕ) → AllSay (ownMeanings k m s l a) → AllSay (tableMeanings m s a)) (a n : ℕ) where
     record Tables (s : State) (l : ℕ) : Type 0 where
       pub passed : Passed k a (s .last) l
       pub tables : s .tables ≡ n + presentBelow (entry w m t k) l
       pub most : s .tables ≤ mostTables
+      pub held : (i : ℕ) → i < l → Present w m t k i → Protected (regions m) (named w m t k i)
       pub first : s .first ≡ 0
       pub count : s .count ≡ 0
       pub all : s .common ≡ regions m
@@ -85,6 +86,7 @@ module _ (w : List ℕ) (m : Memory) (t : ℕ) where
           passed = passed-absent k a (s .last) l (h .passed) e;
           tables = rw (below-absent (entry w m t k) l e) (h .tables);
           most = h .most;
+          held = upto (λ (i : ℕ). Present w m t k i → Protected (regions m) (named w m t k i)) l (h .held) (λ p. absurd (true≢false (sym p ∙ e)));
           first = h .first;
           count = h .count;
           all = h .all;
@@ -94,11 +96,13 @@ module _ (w : List ℕ) (m : Memory) (t : ℕ) where
         → Tables (after k s l (addressOf (entry w m t k l))) (suc l)
     tables-next s l h e r =
         let g = fine-exactly w m t k s l (entry w m t k l) .0 r in
+        let says = own s l (addressOf (entry w m t k l)) (g .own) in
         rw (table s l (addressOf (entry w m t k l)))
         (record {
           passed = passed-next k a (s .last) l (h .passed) (g .sound) (g .above);
           tables = omega (arith, below-present (entry w m t k) l e, h .tables);
-          most = omega (arith, room s l (addressOf (entry w m t k l)) (g .own));
+          most = omega (arith, says .0);
+          held = upto (λ (i : ℕ). Present w m t k i → Protected (regions m) (named w m t k i)) l (h .held) (λ p. says .1 .0);
           first = h .first;
           count = h .count;
           all = h .all;
@@ -113,6 +117,7 @@ module _ (w : List ℕ) (m : Memory) (t : ℕ) where
           passed = rw q (passed-none k a);
           tables = omega (arith, below-none (entry w m t k));
           most = omega arith;
+          held = λ i x. absurd (omega arith);
           first = f;
           count = c;
           all = g;
@@ -200,15 +205,12 @@ module _ (w : List ℕ) (m : Memory) (t : ℕ) where
     hold : Stages w m t
     hold = stages w m t .0 h
 
-    full : (s : State) (l a : ℕ) → AllSay (ownMeanings Pointer s l a) → s .tables < mostTables
-    full s l a r = r .0
+    first : Tables Pointer (λ s l a. refl) (λ s l a x. x) t 1 (afterPointers w m t) (levelSize Pointer)
+    first = tables-end Pointer (λ s l a. refl) (λ s l a x. x) t 1 (startOf m t) refl refl (omega arith) refl refl refl (hold .pointers)
 
-    first : Tables Pointer (λ s l a. refl) full t 1 (afterPointers w m t) (levelSize Pointer)
-    first = tables-end Pointer (λ s l a. refl) full t 1 (startOf m t) refl refl (omega arith) refl refl refl (hold .pointers)
-
-    second : Tables Directory (λ s l a. refl) full (afterPointers w m t .last) (afterPointers w m t .tables) (afterDirectories w m t) (levelSize Directory)
+    second : Tables Directory (λ s l a. refl) (λ s l a x. x) (afterPointers w m t .last) (afterPointers w m t .tables) (afterDirectories w m t) (levelSize Directory)
     second =
-        tables-end Directory (λ s l a. refl) full (afterPointers w m t .last) (afterPointers w m t .tables) (afterPointers w m t) refl refl
+        tables-end Directory (λ s l a. refl) (λ s l a x. x) (afterPointers w m t .last) (afterPointers w m t .tables) (afterPointers w m t) refl refl
         (first .most)
         (first .first)
         (first .count)
@@ -253,7 +255,7 @@ module _ (w : List ℕ) (m : Memory) (t : ℕ) where
         let base = base-exactly w m t .0 (hold .base) in
         record {
           aligned = base .0;
-          basePlaced = base .1;
+          basePlaced = base .1 .0;
           reserved = λ k l p. sounds k l p .reserved;
           placed = λ k l p. sounds k l p .placed;
           above = above;
@@ -266,4 +268,9 @@ module _ (w : List ℕ) (m : Memory) (t : ℕ) where
               (λ r x l p. x l (inLevel Page l p) p)
               (regions m)
               (third .protected);
+          tablesProtected = record {
+            base = base .1 .1;
+            directories = λ l p. first .held l (inLevel Pointer l p) p;
+            pageTables = λ l p. second .held l (inLevel Directory l p) p;
+          };
         }

@@ -7,7 +7,7 @@ use mathlib.Core.List.{List}
 use native.Mathlib.Omega.{arith}
 use borrow.Author.Tests.{leb-true, leb-false, eq-eqb, ne-eqb}
 use lib.Dec.{leb, eqb}
-use Rattle.rules.specs.Rules.{Some, AllHold}
+use Rattle.rules.specs.Rules.{AllHold}
 use Rattle.rules.specs.Meaning.{AllSay}
 use Rattle.pages.specs.declared.Kind.{Kind}
 use Rattle.pages.specs.declared.Kind.the-variants.{Pointer, Directory, Page}
@@ -15,7 +15,7 @@ use Rattle.pages.specs.Entry.{presentOf, addressOf}
 use Rattle.pages.specs.Memory.{Memory, regions, holding}
 use Rattle.pages.specs.Tables.{levelSize}
 use Rattle.pages.specs.Rules.{State, mostTables, startOf, afterTable, afterPage, after, afterAll, entryRules, rulesFrom, walkRules}
-use Rattle.pages.specs.Meaning.{Within, position, presentBelow, entry, Present, named, ownMeanings, Walks}
+use Rattle.pages.specs.Meaning.{Protected, position, presentBelow, entry, Present, named, tableMeanings, ownMeanings, Walks}
 use Rattle.pages.proofs.Found.{below-none, below-present, below-absent, below-more}
 use Rattle.pages.proofs.Conditions.{window, fine-exactly, base-exactly}
 use Rattle.pages.proofs.Regions.{common, common-absent, common-next, held-all}
@@ -35,7 +35,7 @@ module _ (w : List ℕ) (m : Memory) (t f n : ℕ) (h : Walks w m t f n) where
   Ahead s p = (k : Kind) (l : ℕ) → p ≤ position k l → Present w m t k l → s .last < addressOf (entry w m t k l)
 
   -- an entry obeys all rules where it obeys those of its kind
-  entry-holds : (k : Kind) (s : State) (l : ℕ) → Ahead s (position k l) → Present w m t k l → AllSay (ownMeanings k s l (addressOf (entry w m t k l)))
+  entry-holds : (k : Kind) (s : State) (l : ℕ) → Ahead s (position k l) → Present w m t k l → AllSay (ownMeanings k m s l (addressOf (entry w m t k l)))
       → AllHold (entryRules k (window w m t) m s l (entry w m t k l))
   entry-holds k s l a p o =
       fine-exactly w m t k s l (entry w m t k l) .1
@@ -44,8 +44,8 @@ module _ (w : List ℕ) (m : Memory) (t f n : ℕ) (h : Walks w m t f n) where
   -- A LEVEL OF TABLES, with b tables before it
 
   module _ (k : Kind) (table : (s : State) (l a : ℕ) → after k s l a ≡ afterTable s a)
-      (own : (s : State) (l a : ℕ) → s .tables < mostTables → AllSay (ownMeanings k s l a)) (b : ℕ)
-      (most : b + presentBelow (entry w m t k) (levelSize k) ≤ mostTables) where
+      (own : (s : State) (l a : ℕ) → AllSay (tableMeanings m s a) → AllSay (ownMeanings k m s l a)) (b : ℕ)
+      (most : b + presentBelow (entry w m t k) (levelSize k) ≤ mostTables) (held : (l : ℕ) → Present w m t k l → Protected (regions m) (named w m t k l)) where
     record Tables (s : State) (l : ℕ) : Type 0 where
       pub ahead : Ahead s (position k l)
       pub tables : s .tables ≡ b + presentBelow (entry w m t k) l
@@ -62,7 +62,7 @@ module _ (w : List ℕ) (m : Memory) (t f n : ℕ) (h : Walks w m t f n) where
         let d : suc l + (levelSize k - suc l) ≡ levelSize k = omega arith in
         let rest = rw d at (below-more (entry w m t k) (levelSize k - suc l) (suc l)) in
         let one = below-present (entry w m t k) l p in (
-          entry-holds k s l (i .ahead) p (own s l _ (omega (arith, i .tables))),
+          entry-holds k s l (i .ahead) p (own s l _ (omega (arith, i .tables), (held l p, tt))),
           rw (table s l (addressOf (entry w m t k l)))
               (record { ahead = λ j x q g. h .rising k j l x p g (omega arith); tables = omega (arith, i .tables); count = i .count; all = i .all }),
         )
@@ -104,7 +104,7 @@ module _ (w : List ℕ) (m : Memory) (t f n : ℕ) (h : Walks w m t f n) where
       left : holding (s .common) (addressOf (entry w m t Page l)) ≡ common w m t (suc l)
       left = common-next w m t (s .common) l (i .left) p
 
-      protected : Some (Within (named w m t Page l)) (s .common)
+      protected : Protected (s .common) (named w m t Page l)
       protected = rw (i .left) (held-all w m t (h .protected) l p)
 
       by : (x : Bool) → leb l f ≡ x
@@ -134,14 +134,18 @@ module _ (w : List ℕ) (m : Memory) (t f n : ℕ) (h : Walks w m t f n) where
 
   -- ALL LEVELS
 
-  room : (s : State) (l a : ℕ) → s .tables < mostTables → AllSay (ownMeanings Pointer s l a)
-  room s l a x = (x, tt)
-
   pub permits : AllHold (walkRules w m t)
   permits =
-      let a = tables-pass Pointer (λ s l a. refl) room 1 (omega (arith, h .tables)) (startOf m t) (λ k l q p. h .above k l p) refl refl refl in
+      let a =
+      tables-pass Pointer (λ s l a. refl) (λ s l a x. x) 1 (omega (arith, h .tables)) (h .tablesProtected .directories) (startOf m t)
+      (λ k l q p. h .above k l p)
+      refl
+      refl
+      refl in
       let b =
-      tables-pass Directory (λ s l a. refl) room (1 + presentBelow (entry w m t Pointer) (levelSize Pointer)) (h .tables) (afterPointers w m t)
+      tables-pass Directory (λ s l a. refl) (λ s l a x. x) (1 + presentBelow (entry w m t Pointer) (levelSize Pointer)) (h .tables)
+      (h .tablesProtected .pageTables)
+      (afterPointers w m t)
       (λ k l q p. a .1 .ahead k l (omega arith) p)
       (a .1 .tables)
       (a .1 .count)
@@ -154,7 +158,7 @@ module _ (w : List ℕ) (m : Memory) (t f n : ℕ) (h : Walks w m t f n) where
       } in
       stages w m t .1
       (record {
-        base = base-exactly w m t .1 (h .aligned, h .basePlaced);
+        base = base-exactly w m t .1 (h .aligned, (h .basePlaced, h .tablesProtected .base));
         pointers = a .0;
         directories = b .0;
         pages = passes Page (window w m t) m (entry w m t Page) Pages pages-absent (levelSize Page) pages-next (levelSize Page) (afterDirectories w m t) 0 (omega arith) start .0;

@@ -15,7 +15,7 @@ use Rattle.rules.proofs.Filter.{filter-twice, filter-same, some-filter}
 use Rattle.pages.specs.declared.Kind.the-variants.{Page}
 use Rattle.pages.specs.Entry.{presentOf, addressOf}
 use Rattle.pages.specs.Memory.{Memory, regions, holding}
-use Rattle.pages.specs.Meaning.{Within, entry, Present, named, HoldsPages}
+use Rattle.pages.specs.Meaning.{Within, Protected, entry, Present, named, HoldsPages}
 use Rattle.pages.proofs.Conditions.{page-within}
 
 -- what holds below a number, and of it
@@ -52,7 +52,7 @@ module _ (w : List ℕ) (m : Memory) (t : ℕ) where
       ap (filter (insideOf (named w m t Page l))) h ∙ filter-twice (insideOf (named w m t Page l)) (holds l) (holds (suc l)) (λ r. rw e) (regions m)
 
   -- where one of the regions that hold every page below l holds page l too, one holds every page up to it
-  pub held-next : (l : ℕ) → Some (Within (named w m t Page l)) (common l) → Some (Holds (suc l)) (regions m)
+  pub held-next : (l : ℕ) → Protected (common l) (named w m t Page l) → Some (Holds (suc l)) (regions m)
   held-next l h =
       some-map (λ (r : Range). (holds l r ≡ true) × Within (named w m t Page l) r) (Holds (suc l))
       (λ r x. upto (λ (i : ℕ). Present w m t Page i → Within (named w m t Page i) r) l (holds-exactly l r .0 (x .0)) (λ p. x .1))
@@ -60,7 +60,7 @@ module _ (w : List ℕ) (m : Memory) (t : ℕ) where
       (some-filter (Within (named w m t Page l)) (holds l) (regions m) .0 h)
 
   -- where one of the regions holds every page, one of those that hold every page below l holds page l
-  pub held-all : Some (HoldsPages w m t) (regions m) → (l : ℕ) → Present w m t Page l → Some (Within (named w m t Page l)) (common l)
+  pub held-all : Some (HoldsPages w m t) (regions m) → (l : ℕ) → Present w m t Page l → Protected (common l) (named w m t Page l)
   held-all h l p =
       some-filter (Within (named w m t Page l)) (holds l) (regions m) .1
       (some-map (HoldsPages w m t) (λ (r : Range). (holds l r ≡ true) × Within (named w m t Page l) r)

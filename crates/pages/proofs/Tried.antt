@@ -126,7 +126,7 @@ module _ (window : Range) (m : Memory) where
     pub room : Room k p l
     room = by k (says .1 .1 .1 .1)
       where
-        by : (k : Kind) → AllSay (ownMeanings k (stateOf m p) l (addressOf e)) → Room k p l
+        by : (k : Kind) → AllSay (ownMeanings k m (stateOf m p) l (addressOf e)) → Room k p l
         by Pointer h = h .0
         by Directory h = h .0
         by Page h = ⊎-elim (λ c. omega arith) (λ q. omega arith) (h .0)

@@ -25,6 +25,10 @@ Within a b = (x : ℕ) → Has a x → Has b x
 abbrev pub Apart : Range → Range → Type 0
 Apart a b = (x : ℕ) → Has a x → Has b x → ⊥
 
+-- one of these regions holds all bytes of a page
+abbrev pub Protected : List Range → Range → Type 0
+Protected rs page = Some (Within page) rs
+
 -- BITS
 
 -- bit i of a number, 0 the lowest
@@ -77,6 +81,12 @@ module _ (w : List ℕ) (m : Memory) (t : ℕ) where
     pub inside : Within page (windowOf w (m .window))
     pub clear : Every (Apart page) (forbidden m)
 
+  -- "every table page, the base too, must lie wholly in any one of the three regions"
+  pub record TablesProtected : Type 0 where
+    pub base : Protected (regions m) (pageOf t)
+    pub directories : (l : ℕ) → Present Pointer l → Protected (regions m) (named Pointer l)
+    pub pageTables : (l : ℕ) → Present Directory l → Protected (regions m) (named Directory l)
+
   -- rules 14 to 20 hold, with n pages from linear page f on
   pub record Walks (f n : ℕ) : Type 0 where
     pub aligned : t % pageSize ≡ 0
@@ -92,6 +102,7 @@ module _ (w : List ℕ) (m : Memory) (t : ℕ) where
     pub noPage : n ≡ 0 → f ≡ 0
     -- "all N pages lie in the same one of the three"
     pub protected : Some HoldsPages (regions m)
+    pub tablesProtected : TablesProtected
 
   -- WHAT WAS FOUND. The n pages from linear page f on are found through the tables, and no others
   pub record Walked (f n : ℕ) : Type 0 where
@@ -109,20 +120,25 @@ module _ (w : List ℕ) (m : Memory) (t : ℕ) where
 
 -- THE RULES IN ORDER
 
--- "The base is tried for 14, 15, 17."
+-- "The base is tried for 14, 15, 17", and "for the base after 17" for 20
 abbrev pub baseMeanings : Range → Memory → ℕ → List Meaning
 baseMeanings window m base =
     meaning 14 (base % pageSize ≡ 0)
     ∷ meaning 15 (Within (pageOf base) window)
     ∷ meaning 17 (Every (Apart (pageOf base)) (forbidden m))
+    ∷ meaning 20 (Protected (regions m) (pageOf base))
     ∷ []
 
--- "then a table for 18 and a page for 19, 20", where s was found before
-abbrev pub ownMeanings : Kind → State → ℕ → ℕ → List Meaning
-ownMeanings Pointer s l a = meaning 18 (s .tables < mostTables) ∷ []
-ownMeanings Directory s l a = meaning 18 (s .tables < mostTables) ∷ []
-ownMeanings Page s l a =
-    meaning 19 ((s .count ≡ 0) ⊎ (l ≡ s .first + s .count)) ∷ meaning 20 (Some (Within (pageOf a)) (s .common)) ∷ []
+-- "then a table for 18" and 20, where s was found before
+abbrev pub tableMeanings : Memory → State → ℕ → List Meaning
+tableMeanings m s a = meaning 18 (s .tables < mostTables) ∷ meaning 20 (Protected (regions m) (pageOf a)) ∷ []
+
+-- "and a page for 19, 20"
+abbrev pub ownMeanings : Kind → Memory → State → ℕ → ℕ → List Meaning
+ownMeanings Pointer m s l a = tableMeanings m s a
+ownMeanings Directory m s l a = tableMeanings m s a
+ownMeanings Page m s l a =
+    meaning 19 ((s .count ≡ 0) ⊎ (l ≡ s .first + s .count)) ∷ meaning 20 (Protected (s .common) (pageOf a)) ∷ []
 
 -- "An entry is tried for 14, 15, 16, 17;"
 abbrev pub entryMeanings : Kind → Range → Memory → State → ℕ → ℕ → List Meaning
@@ -131,7 +147,7 @@ entryMeanings k window m s l e =
     ∷ meaning 15 (Within (pageOf (addressOf e)) window)
     ∷ meaning 16 (s .last < addressOf e)
     ∷ meaning 17 (Every (Apart (pageOf (addressOf e))) (forbidden m))
-    ∷ ownMeanings k s l (addressOf e)
+    ∷ ownMeanings k m s l (addressOf e)
 
 unfoldable pub meaningsFrom : Range → Memory → State → List Found → List Meaning
 meaningsFrom window m s [] = []

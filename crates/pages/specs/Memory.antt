@@ -57,7 +57,7 @@ regions m = m .dpr ∷ m .low ∷ m .high ∷ []
 unfoldable pub allowed : Memory → ℕ → Bool
 allowed m a = every (clearOf (pageOf a)) (forbidden m)
 
--- rule 20: one of the regions holds the page, "wholly in"
+-- rule 20, for tables and pages: one of these regions holds the page of memory at a, "wholly in"
 unfoldable pub protected : List Range → ℕ → Bool
 protected rs a = any (insideOf (pageOf a)) rs
 

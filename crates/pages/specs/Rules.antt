@@ -49,23 +49,28 @@ abbrev pub afterAll : State → List Found → State
 afterAll s [] = s
 afterAll s (e ∷ es) = afterAll (afterEntry s e) es
 
--- "The base is tried for 14, 15, 17."
+-- "The base is tried for 14, 15, 17", and "for the base after 17" for 20
 abbrev pub baseRules : Range → Memory → ℕ → List Rule
 baseRules window m base =
     rule 14 (eqb (base % pageSize) 0)
     ∷ rule 15 (insideOf (pageOf base) window)
     ∷ rule 17 (allowed m base)
+    ∷ rule 20 (protected (regions m) base)
     ∷ []
 
 -- "Linear pages follow one another without a gap from the first."
 unfoldable pub follows : ℕ → ℕ → ℕ → Bool
 follows first count l = eqb count 0 || eqb l (first + count)
 
--- "then a table for 18 and a page for 19, 20": "a page that leaves no common region gives 20, at that page"
-abbrev pub ownRules : Kind → State → ℕ → ℕ → List Rule
-ownRules Pointer s l a = rule 18 (ltb (s .tables) mostTables) ∷ []
-ownRules Directory s l a = rule 18 (ltb (s .tables) mostTables) ∷ []
-ownRules Page s l a = rule 19 (follows (s .first) (s .count) l) ∷ rule 20 (protected (s .common) a) ∷ []
+-- a table lies "wholly in any one of the three regions, or the answer is 20, tried after 18"
+abbrev pub tableRules : Memory → State → ℕ → List Rule
+tableRules m s a = rule 18 (ltb (s .tables) mostTables) ∷ rule 20 (protected (regions m) a) ∷ []
+
+-- "then a table for 18" and 20, "and a page for 19, 20": "a page that leaves no common region gives 20, at that page"
+abbrev pub ownRules : Kind → Memory → State → ℕ → ℕ → List Rule
+ownRules Pointer m s l a = tableRules m s a
+ownRules Directory m s l a = tableRules m s a
+ownRules Page m s l a = rule 19 (follows (s .first) (s .count) l) ∷ rule 20 (protected (s .common) a) ∷ []
 
 -- "An entry is tried for 14, 15, 16, 17;" .. "Every address found must exceed the one before it in this breadth-first order"
 abbrev pub entryRules : Kind → Range → Memory → State → ℕ → ℕ → List Rule
@@ -74,7 +79,7 @@ entryRules k window m s l e =
     ∷ rule 15 (insideOf (pageOf (addressOf e)) window)
     ∷ rule 16 (ltb (s .last) (addressOf e))
     ∷ rule 17 (allowed m (addressOf e))
-    ∷ ownRules k s l (addressOf e)
+    ∷ ownRules k m s l (addressOf e)
 
 -- the rules of entries in turn
 unfoldable pub rulesFrom : Range → Memory → State → List Found → List Rule

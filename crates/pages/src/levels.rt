@@ -8,6 +8,7 @@ use crate::entry::reserved_clear;
 use crate::placement::in_window;
 use crate::placement::is_allowed;
 use crate::placement::is_protected;
+use crate::placement::is_table_protected;
 use crate::tables::ENTRIES;
 use crate::tables::POINTERS;
 use crate::tables::directory;
@@ -22,7 +23,7 @@ ghost use Rattle.rules.specs.Rules.{firstFailing};
 ghost use Rattle.pages.specs.declared.Kind.the-variants.{Directory, Page};
 ghost use Rattle.pages.specs.Memory.{windowOf, memoryOf};
 ghost use Rattle.pages.specs.Tables.{entries, entryAt, levelSize, foundOne, foundFrom, foundIn};
-ghost use Rattle.pages.specs.Rules.{mostTables, afterTable, afterPage, after, follows, baseRules, ownRules, entryRules, walkOf};
+ghost use Rattle.pages.specs.Rules.{mostTables, afterTable, afterPage, after, follows, baseRules, tableRules, ownRules, entryRules, walkOf};
 ghost use Rattle.pages.specs.Inner.{stateOf, pagesTo, Ordered, Above, Leads, Room, Tried};
 
 const MOST_TABLES: u64 = 40;
@@ -70,14 +71,22 @@ fn pages_to(p: Progress, a: u64) -> Range
     }
 }
 
-// The number of the first of a kind's own rules that fails: 18 for a table, 19 and 20 for a page.
+// The number of the first of a table's own rules that fails.
+fn table_fault(m: MemoryRanges, p: Progress, a: u64) -> u32
+    ensures { λ r. ⌜ ((reserved : List ℕ) → r ≡ firstFailing (tableRules (memoryOf m reserved) (stateOf (memoryOf m reserved) p) a)) ⌝ }
+{
+    let from20 = unless(is_table_protected(m, a), 20, 0);
+    unless(p.tables < MOST_TABLES, 18, from20)
+}
+
+// The number of the first of a kind's own rules that fails: 18 and 20 for a table, 19 and 20 for a page.
 fn own_fault(kind: Kind, m: MemoryRanges, p: Progress, l: u64, a: u64) -> u32
     requires { ⌜ Above p a ⌝ }
-    ensures { λ r. ⌜ ((reserved : List ℕ) → r ≡ firstFailing (ownRules kind (stateOf (memoryOf m reserved) p) l a)) ⌝ }
+    ensures { λ r. ⌜ ((reserved : List ℕ) → r ≡ firstFailing (ownRules kind (memoryOf m reserved) (stateOf (memoryOf m reserved) p) l a)) ⌝ }
 {
     match kind {
-        Kind::Pointer => unless(p.tables < MOST_TABLES, 18, 0),
-        Kind::Directory => unless(p.tables < MOST_TABLES, 18, 0),
+        Kind::Pointer => table_fault(m, p, a),
+        Kind::Directory => table_fault(m, p, a),
         Kind::Page => unless(
             page_follows(p, l),
             19,
@@ -119,9 +128,10 @@ fn entry_fault(
 fn base_fault(w: &[u8], m: MemoryRanges, reserved: &[u64], t: u64) -> u32
     ensures { λ r. ⌜ r ≡ firstFailing (baseRules (windowOf (now (w .entry)) (m .window)) (memoryOf m (now (reserved .entry))) t) ⌝ }
 {
-    let forbidden = unless(is_allowed(m, reserved, t), 17, 0);
-    let place = unless(in_window(w, m.window, t), 15, forbidden);
-    unless(t % PAGE_SIZE == 0, 14, place)
+    let from20 = unless(is_table_protected(m, t), 20, 0);
+    let from17 = unless(is_allowed(m, reserved, t), 17, from20);
+    let from15 = unless(in_window(w, m.window, t), 15, from17);
+    unless(t % PAGE_SIZE == 0, 14, from15)
 }
 
 // What was found after one table more.

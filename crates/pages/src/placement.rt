@@ -1,4 +1,4 @@
-// What a page of memory is tried for: inside the window, clear of the forbidden ranges; and whether a region holds a range of pages.
+// What a page of memory is tried for: inside the window, clear of the forbidden ranges, held by a region; and whether one region holds a range of pages.
 use crate::MemoryRanges;
 use range::Condition;
 use range::PAGE_SIZE;
@@ -8,7 +8,7 @@ ghost use mathlib.Core.Path.{_≡_};
 ghost use mathlib.Core.List.{List};
 ghost use Rattle.range.specs.Range.{insideOf};
 ghost use Rattle.rules.specs.Tests.{any};
-ghost use Rattle.pages.specs.Memory.{pageOf, windowOf, memoryOf, regions, allowed};
+ghost use Rattle.pages.specs.Memory.{pageOf, windowOf, memoryOf, regions, allowed, protected};
 
 // The forbidden range below 1 MiB, 0xA0000 to 0xFFFFF.
 const LOW_BASE: u64 = 0xA0000;
@@ -47,9 +47,20 @@ pub(crate) fn is_allowed(m: MemoryRanges, reserved: &[u64], a: u64) -> bool
             && (range::clear(page, m.sinit) && range::all_meet(Condition::ClearOf(page), reserved)))
 }
 
-// Rule 20, of the range from the first page to this one: wholly in DPR, in the low PMR or in the high PMR.
+// Rule 20, of a range: wholly in DPR, in the low PMR or in the high PMR.
 pub(crate) fn is_protected(m: MemoryRanges, pages: Range) -> bool
     ensures { λ r. ⌜ ((reserved : List ℕ) → r ≡ any (insideOf pages) (regions (memoryOf m reserved))) ⌝ }
 {
     range::inside(pages, m.dpr) || (range::inside(pages, m.low) || range::inside(pages, m.high))
+}
+
+// Rule 20, of the table at a: any one of the regions will do, whichever holds the pages.
+pub(crate) fn is_table_protected(m: MemoryRanges, a: u64) -> bool
+    ensures { λ r. ⌜ ((reserved : List ℕ) → r ≡ protected (regions (memoryOf m reserved)) a) ⌝ }
+{
+    let table = Range {
+        base: a,
+        size: PAGE_SIZE,
+    };
+    is_protected(m, table)
 }

@@ -16,8 +16,9 @@ record-exactly r =
             version = eqb-true _ _ (t .1 .0);
             algorithm = eqb-true _ _ (t .1 .1 .0);
             type = type .0 (t .1 .1 .1 .0);
+            mask = eqb-true _ _ (t .1 .1 .1 .1 .0);
           },
-      λ h. each _ .1 (eq-eqb _ _ (h .size) & eq-eqb _ _ (h .version) & eq-eqb _ _ (h .algorithm) & type .1 (h .type) & tt),
+      λ h. each _ .1 (eq-eqb _ _ (h .size) & eq-eqb _ _ (h .version) & eq-eqb _ _ (h .algorithm) & type .1 (h .type) & eq-eqb _ _ (h .mask) & tt),
     )
 
 pub worthy-or-allowed-exactly : WorthyOrAllowedExactly

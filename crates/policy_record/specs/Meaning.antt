@@ -9,20 +9,22 @@ use lib.ListN.{length}
 use Rattle.rules.specs.Rules.{all, firstFailing}
 use Rattle.rules.specs.Meaning.{Meaning, meaning, AllSay, FirstBroken}
 use Rattle.policy_record.specs.declared.RecordAnswer.the-variants as answers
-use Rattle.policy_record.specs.Record.{recordSize, versionHigh, knownVersion, hashAlg, sha256Alg, policyType, LIST, ANY, sinitMinVersion, control, recordTests, worthyOrAllowed, versionReached, recordRules}
+use Rattle.policy_record.specs.Record.{recordSize, versionHigh, knownVersion, hashAlg, sha256Alg, policyType, LIST, ANY, sinitMinVersion, control, lcpHashAlgMask, sha256Bit, recordTests, worthyOrAllowed, versionReached, recordRules}
 use Rattle.policy_record.specs.Answers.{numberOf, recordOf}
 
--- 23
+-- bit k of a number, 0 the lowest, is 1
+abbrev pub Bit : ℕ → ℕ → Type 0
+Bit k x = x / 2 ^ k % 2 ≡ 1
+
+-- 23, for LIST and for ANY
 pub record Record (r : List ℕ) : Type 0 where
   pub size : length r ≡ recordSize
   pub version : versionHigh r ≡ knownVersion
   pub algorithm : hashAlg r ≡ sha256Alg
   pub type : (policyType r ≡ LIST) ⊎ (policyType r ≡ ANY)
+  pub mask : Bit sha256Bit (lcpHashAlgMask r)
 
 -- 24
-abbrev pub Bit : ℕ → ℕ → Type 0
-Bit k x = x / 2 ^ k % 2 ≡ 1
-
 abbrev pub WorthyOrAllowed : ℕ → List ℕ → Type 0
 WorthyOrAllowed flags r = (Bit 14 flags) ⊎ (Bit 15 flags) → Bit 1 (control r)
 

@@ -8,7 +8,8 @@ use Rattle.field.specs.Field.{numberAt}
 use Rattle.rules.specs.Rules.{Rule, rule, all}
 
 -- THE FIELDS. "Record, exactly 70 bytes: version 0 (16), high byte 3; HashAlg 2 (16) = 0x000B; type 4 (8): 0 LIST, 1 ANY; SINITMinVersion 5 (8);
--- eight revocation counters 6 (16 each); control 22 (32); hash masks and others 26 to 37; PolicyHash 38 (32 bytes)."
+-- eight revocation counters 6 (16 each); control 22 (32); hash masks and others 26 to 37; PolicyHash 38 (32 bytes)." Of the masks one is read:
+-- "LcpHashAlgMask (16 bits at offset 28)".
 
 abbrev pub recordSize : ℕ
 recordSize = 70
@@ -44,24 +45,32 @@ revocationCounter r i = numberAt r (6 + 2 * i) 2
 abbrev pub control : List ℕ → ℕ
 control r = numberAt r 22 4
 
+abbrev pub lcpHashAlgMask : List ℕ → ℕ
+lcpHashAlgMask r = numberAt r 28 2
+
+-- "the bit for SHA-256, 0x0008", which is 2^3
+abbrev pub sha256Bit : ℕ
+sha256Bit = 3
+
 abbrev pub policyHash : List ℕ → List ℕ
 policyHash r = take 32 (drop 38 r)
 
 -- THE RULES
 
--- 23. "policy record"
+abbrev pub bit : ℕ → ℕ → Bool
+bit k x = eqb (x / 2 ^ k % 2) 1
+
+-- 23. "policy record"; "must have the bit for SHA-256"
 unfoldable pub recordTests : List ℕ → List Bool
 recordTests r =
     eqb (length r) recordSize
     ∷ eqb (versionHigh r) knownVersion
     ∷ eqb (hashAlg r) sha256Alg
     ∷ (eqb (policyType r) LIST || eqb (policyType r) ANY)
+    ∷ bit sha256Bit (lcpHashAlgMask r)
     ∷ []
 
 -- 24. "Module flags bit 14 or 15 without control bit 1: 24."
-abbrev pub bit : ℕ → ℕ → Bool
-bit k x = eqb (x / 2 ^ k % 2) 1
-
 unfoldable pub worthyOrAllowed : ℕ → List ℕ → Bool
 worthyOrAllowed flags r = not (bit 14 flags || bit 15 flags) || bit 1 (control r)
 

@@ -2,7 +2,7 @@
 use field::number_or_zero;
 ghost use mathlib.Core.Path.{_≡_};
 ghost use Rattle.rules.specs.Rules.{all, firstFailing};
-ghost use Rattle.policy_record.specs.Record.{policyType, revocationCounter, recordTests, worthyOrAllowed, versionReached, recordRules};
+ghost use Rattle.policy_record.specs.Record.{policyType, revocationCounter, lcpHashAlgMask, sha256Bit, bit, recordTests, worthyOrAllowed, versionReached, recordRules};
 ghost use Rattle.policy_record.specs.Answers.{recordOf};
 
 // The kind of policy of a record for which rules 23 to 25 hold, or the number of the rule that refuses it.
@@ -22,6 +22,9 @@ const REVOCATION_COUNTERS: usize = 6;
 
 const KNOWN_VERSION: u64 = 3;
 
+// The bit for SHA-256 in LcpHashAlgMask, 0x0008.
+const SHA256_BIT: u64 = 3;
+
 const LIST: u64 = 0;
 
 const ANY: u64 = 1;
@@ -32,7 +35,14 @@ fn policy_type(record: &[u8]) -> u64
     number_or_zero(record, 4, 1)
 }
 
-// Rule 23: size, version, algorithm and type.
+// LcpHashAlgMask has the bit for SHA-256.
+fn mask_has_sha256(record: &[u8]) -> bool
+    ensures { λ t. ⌜ t ≡ bit sha256Bit (lcpHashAlgMask (now («record» .entry))) ⌝ }
+{
+    (number_or_zero(record, 28, 2) >> SHA256_BIT) & 1 == 1
+}
+
+// Rule 23: size, version, algorithm, the mask of hash algorithms and type.
 fn record_holds(record: &[u8]) -> bool
     ensures { λ t. ⌜ t ≡ all (recordTests (now («record» .entry))) ⌝ }
 {
@@ -43,6 +53,9 @@ fn record_holds(record: &[u8]) -> bool
         return false;
     }
     if number_or_zero(record, 2, 2) != SHA256_ALG {
+        return false;
+    }
+    if !mask_has_sha256(record) {
         return false;
     }
     let type_ = policy_type(record);

@@ -96,6 +96,11 @@ pub fn find_in_policy(refusal: Refusal, file: &[u8]) -> Option<Finding> {
     finding.filter(|finding| finding.is_of(refusal))
 }
 
+/// What rule 23 finds in a policy record, whatever it is checked with; nothing where the rule holds.
+pub fn first_in_record(record: &[u8]) -> Option<Finding> {
+    lists::record(record, &Length::of(record)).err()
+}
+
 /// The first rule that does not hold, as this module sees it.
 pub fn first(parts: &Parts, platform: &Platform, places: usize) -> Option<Finding> {
     all(parts, &AtHand::of(parts), platform, places).err()

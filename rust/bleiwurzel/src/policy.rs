@@ -108,6 +108,8 @@ pub const TBOOT_CUSTOM: u32 = 0x13;
 
 /// The algorithm by which a list names an image or an STM image, and by which the record names the policy file.
 pub const SHA256: u16 = 0x000b;
+/// The bit of a record's LcpHashAlgMask by which it permits that algorithm.
+pub const SHA256_PERMITTED: u16 = 0x0008;
 
 /// How many lists a policy file has, or 26, or 27 with the place of the first wrong field.
 pub fn read(file: &[u8]) -> Result<usize, Refusal> {

@@ -119,7 +119,7 @@ macro_rules! not_at_the_rack {
     };
 }
 
-/// Of a rule about the record that is tried under every policy.
+/// Of a rule about protection or the record, which is tried under every policy.
 macro_rules! under_any {
     () => {
         "It holds under ANY too."
@@ -221,7 +221,7 @@ pub static TEXTS: [Text; 33] = [
         meaning: "A PMR in use lies on the wrong side of 4 GiB, or the high one ends above 2^52.",
         rule: "In OsSinitData: PMR low base at offset 32, low size 40, high base 48, high size 56, 64 bits each. Size 0 is unused and not \
             judged. A low PMR ends at or below 2^32; a high one begins at or above 2^32 and ends at or below 2^52. It is 5 also where the \
-            DPR protects every page.",
+            DPR protects every table and page.",
         causes: &[
             "The low PMR was made to cover memory up to the top of a host with more than 4 GiB.",
             "The high PMR is filled in on a host that has no memory above 4 GiB.",
@@ -232,8 +232,8 @@ pub static TEXTS: [Text; 33] = [
             "Look whether the found size is in truth an end address.",
         ],
         builder: &[
-            "Split the protected memory at 4 GiB; write size 0 for the half that is not there. One of the two, or the DPR, must hold the whole image \
-                (20).",
+            "Split the protected memory at 4 GiB; write size 0 for the half that is not there. One of the two, or the DPR, must hold the whole image, \
+                and each table page must lie in one of them (20).",
         ],
     },
     Text {
@@ -477,13 +477,19 @@ pub static TEXTS: [Text; 33] = [
     Text {
         number: 20,
         name: "not protected",
-        meaning: "Neither DPR nor the low PMR nor the high PMR holds all pages of the image.",
-        rule: "All 4,096 bytes of every page lie in the same one of: DPR (base and size of the platform), PMR low (offsets 32 and 40 in \
-            OsSinitData), PMR high (48 and 56). The first page picks every region that holds it, and each later page keeps those of them that \
-            hold it too; the page that keeps none is refused. Pages across two regions that abut are refused unless one region holds them \
-            all. Every page that the tables map counts, also one past MLE Size. The tables need no region.",
+        meaning: "A table page lies wholly in none of DPR, low PMR and high PMR, or none of these holds all pages of the image.",
+        rule: concat!(
+            "There are three regions: DPR (base and size of the platform), PMR low (offsets 32 and 40 in OsSinitData), PMR high (48 and 56). All \
+             4,096 bytes of each table page (the pointer table, every directory and every page table, empty ones too) lie in any one of them, which may be \
+             another than that of other tables or of the image; this is tried after 18, and of the base after 17. All 4,096 bytes of every page of \
+             the image lie in one and the same. The first page picks every region that holds it, and each later page keeps those of them that hold \
+             it too; the page that keeps none is refused. A table page across two regions that abut is refused unless the third holds all of it, \
+             and so are pages unless one region holds them all. Every page that the tables map counts, also one past MLE Size. ",
+            under_any!()
+        ),
         causes: &[
-            "The loader left the PMR fields 0, and the image is not wholly in the DPR.",
+            "The loader placed the tables just below the image, and the PMR or DPR was made for the image alone.",
+            "The loader left the PMR fields 0, and tables and image are not wholly in the DPR.",
             "The image lies partly in one region and partly in another, for instance in the DPR and in the low PMR.",
             "The image lies across 4 GiB: the low PMR ends there at the latest, and the high one begins there at the earliest.",
             "The image has grown past the end of the region that was made for it.",
@@ -492,12 +498,13 @@ pub static TEXTS: [Text; 33] = [
         ],
         technician: &[
             "Compare DPR base and size with the host's DPR register; the size field there is in MiB.",
-            "Compare the page that was found with the three regions that the tool shows. It is not enough that a region holds this page: one and \
-                the same must hold all pages.",
-            "If the regions are right for this host, hand page and regions to the image's builder.",
+            "Compare what was found with the three regions that the tool shows. If it is a table page, any one of them must hold all of it.",
+            "If it is a page, it is not enough that a region holds it: one and the same must hold all pages of the image.",
+            "If the regions are right for this host, hand what was found and the regions to the image's builder.",
         ],
         builder: &[
-            "Have the loader ask for one PMR that covers the whole image, or place the whole image inside the DPR.",
+            "Have the loader ask for one PMR that covers the tables and the whole image, or place all of it inside the DPR. Tables may lie in another \
+                region than the image here, but Intel's MLE guide wants one that holds both.",
             "Keep the image wholly below 4 GiB, as Intel's MLE guide asks.",
         ],
     },
@@ -544,23 +551,29 @@ pub static TEXTS: [Text; 33] = [
     Text {
         number: 23,
         name: "policy record",
-        meaning: "The policy record does not have 70 bytes, major version 3, HashAlg 0x000B and type LIST or ANY.",
-        rule: "The record is exactly 70 bytes; version at 0 (16 bits) has high byte 3, the low byte is free; HashAlg 2 (16) = 0x000B (SHA-256); \
-            type 4 (8) is 0 (LIST) or 1 (ANY).",
+        meaning: "The policy record does not have 70 bytes, major version 3, HashAlg 0x000B, type LIST or ANY, and in LcpHashAlgMask the bit 0x0008 \
+            (SHA-256).",
+        rule: concat!(
+            "The record is exactly 70 bytes; version at 0 (16 bits) has high byte 3, the low byte is free; HashAlg 2 (16) = 0x000B (SHA-256); type 4 \
+             (8) is 0 (LIST) or 1 (ANY); LcpHashAlgMask 28 (16) has the bit 0x0008 (SHA-256), and its other bits are free. ",
+            under_any!()
+        ),
         causes: &[
             "The record is that of a TPM 1.2 (version 2.x, 54 bytes) or uses SHA-1 or SHA-384.",
+            "The record permits other algorithms and not SHA-256, as one made with `--mask sha384` does, or a program left its bytes 28 and 29 at 0.",
             "The file holds the whole NV index with padding, or a policy data file was given instead of the record.",
         ],
         technician: &[
             "`ls -l`: the record has 70 bytes. A file that begins with `Intel(R) TXT LCP_POLICY_DATA` is the policy file, which belongs into the \
              window.",
             "Read the NV index again, 70 bytes from offset 0.",
-            "If it is HashAlg, the record was made for another algorithm (0x0004 is SHA-1, 0x000c SHA-384): ask the store for this host's SHA-256 \
-             record, and have it written into the TPM before the restart.",
+            "If it is HashAlg (0x0004 is SHA-1, 0x000c SHA-384) or LcpHashAlgMask (0x0001 is SHA-1, 0x0040 SHA-384), the record was made for another \
+             algorithm or, with 0 there, for none: ask the store for this host's SHA-256 record, and have it written into the TPM before the restart.",
         ],
         builder: &[
             concat!("Make the record and its policy file anew: ", make_policy!(), ". ", asks_again!()),
             concat!("For a policy of type ANY: `lcp2_crtpol --create --type any ", record!(), "`."),
+            "In a description for `bleiwurzel policy write` leave out the key `lcp-hash-alg-mask`, which is 0x0008 then, or give it a number with that bit.",
         ],
     },
     Text {

@@ -221,12 +221,11 @@ fn with_stm(shape: &Shape) -> Image {
     with_lists(&image, &[other, list(&[by_others, stm(&[[3; 32], stm_digest]), launch(2, &[digest])])])
 }
 
-/// The low PMR alone holds all three pages; DPR holds the first two.
-fn in_two_regions() -> Image {
+/// Three pages behind three tables, with this DPR and this low PMR.
+fn in_regions(dpr: Region, low: Region) -> Image {
     let mut image = image(&Shape { pages: 3, ..Shape::default() });
-    (image.platform.dpr_base, image.platform.dpr_size) = (image.listed[0], 0x2000);
-    put(&mut image.heap, LOW, image.listed[0], 8);
-    put(&mut image.heap, LOW + 8, 0x3000, 8);
+    assert_eq!(image.listed[0], BASE + 0x3000);
+    image.set_regions(dpr, low, (0, 0));
     image
 }
 
@@ -292,11 +291,13 @@ fn images() {
     damage_image("4096 pages, LIST", listed(&Shape { pages: 4096, first: 100, ..plain.clone() }), 40, 10, &mut counts);
     damage_image("the most pages", of(Shape { pages: MOST_PAGES, first: 300, ..plain.clone() }), 20, 15, &mut counts);
     damage_image("two pages, LIST with STM elements", with_stm(&plain), 6000, 12, &mut counts);
-    damage_image("three pages in two regions", in_two_regions(), 3000, 14, &mut counts);
+    let (in_both, apart) = (((BASE + 0x3000, 0x2000), (BASE, 0x6000)), ((BASE, 0x3000), (BASE + 0x3000, 0x3000)));
+    damage_image("all in the low PMR, two pages in DPR", in_regions(in_both.0, in_both.1), 3000, 14, &mut counts);
+    damage_image("tables in DPR, pages in the low PMR", in_regions(apart.0, apart.1), 3000, 19, &mut counts);
     let newer = Image { sinit: module_with(HEADER_3_0, 960), ..of(plain) };
     damage_image("two pages, module header 3.0", newer, 6000, 16, &mut counts);
     damage_image("two pages, reserved ranges", with_ranges(), 3000, 17, &mut counts);
-    assert_eq!(counts.values().sum::<usize>(), 38_120);
+    assert_eq!(counts.values().sum::<usize>(), 41_120);
     let met: Vec<u32> = counts.keys().copied().collect();
     let expected: Vec<u32> = (0..=29).filter(|number| *number != 13).collect();
     assert_eq!(met, expected, "every number but 13 is met: {counts:?}");

@@ -164,6 +164,39 @@ fn every_field_of_the_record() {
     assert_eq!(place.taken().1[..RECORD_FIELDS], fields.bytes());
 }
 
+/// A record with which no image is permitted is written as it is asked for, and standard error says why. The check agrees.
+#[test]
+fn a_record_that_permits_nothing() {
+    let place = Place::new("a_record_that_permits_nothing");
+    let mut image = image(&Shape::default());
+    let mask = |found: &str| format!("LcpHashAlgMask, record offset 28: expected the bit 0x0008 (SHA-256) set, found {found}");
+    for (words, why) in [
+        ("lcp-hash-alg-mask=0", Some(mask("0x0000"))),
+        ("lcp-hash-alg-mask=0xfff7 type=any", Some(mask("0xfff7"))),
+        ("hash-alg=sha384", Some("HashAlg, record offset 2: expected 0x000b (SHA256), found 0x000c".to_string())),
+        ("type=2 lcp-hash-alg-mask=0", Some("type, record offset 4: expected 0 (LIST) or 1 (ANY), found 2".to_string())),
+        ("version=0x0402", Some("version, record offset 0: expected high byte 3, as 0x0302, found 0x0402".to_string())),
+        ("", None),
+        ("lcp-hash-alg-mask=0xffff version=0x03ff type=any lcp-sign-alg-mask=0 control=0xffffffff", None),
+    ] {
+        let ran = place.write(&format!("record {words}\nlist\n"), &[]);
+        let begin = "bleiwurzel: the record was written, but with it bleiwurzel check permits no image: ";
+        let said = why.as_ref().map_or(String::new(), |why| format!("{begin}{why}; see bleiwurzel refusals 23\n"));
+        assert_eq!((ran.status, &ran.err), (OK, &said), "{words}");
+        assert!(ran.out.starts_with("wrote "), "{words}: {}", ran.out);
+        image.record = place.taken().1;
+        assert_eq!(asked(words, &image).number == 23, why.is_some(), "{words}");
+    }
+    fs::write(&place.text, "record lcp-hash-alg-mask=4\nlist\n").expect("a description");
+    let made = run_on(b"", &["policy", "write", "-o", &place.file, "--record", "-", &place.text]);
+    assert!(
+        made.status.success()
+            && made.stdout.len() == 70
+            && made.stderr.ends_with(b", found 0x0004; see bleiwurzel refusals 23\n"),
+        "to standard output"
+    );
+}
+
 /// All that an element can say, with comments, blanks and line ends of another system between.
 #[test]
 fn every_field_of_an_element() {

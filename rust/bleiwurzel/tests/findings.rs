@@ -121,57 +121,190 @@ fn the_end_of_a_reserved_range() {
     }
 }
 
-const NO_HIGH: &str = "PMR high (of size 0) does not hold it";
-
-/// Holds what is said of 20, for three pages from 0x103000 on with this DPR and low PMR (base and size), to: which page, what was expected of it,
-/// and the notes.
-fn outside(dpr: (u64, u64), low: (u64, u64), page: u64, expected: &str, notes: &[&str]) {
-    let mut image = image(&Shape { pages: 3, ..Shape::default() });
-    (image.platform.dpr_base, image.platform.dpr_size) = dpr;
-    put(&mut image.heap, LOW, low.0, 8);
-    put(&mut image.heap, LOW + 8, low.1, 8);
-    let finding = finding::first(&image.parts(), &image.platform, MOST_PAGES).expect("a refusal");
-    let (entry, linear) = (0x2000 + 8 * page, 0x1000 * page);
-    let place = format!(
-        "entry {page} of the page table at 0x102000 (physical {:#x}, window offset {entry:#x}), which maps linear {linear:#x}",
-        0x100000 + entry
-    );
-    let found = format!("page {:#x} to {:#x}", 0x103000 + linear, 0x103fff + linear);
-    let notes = notes.iter().map(|note| note.to_string()).collect();
-    assert_eq!(finding, Finding { number: 20, place, expected: expected.to_string(), found, notes, field: None });
+/// What is found of this image where DPR, low PMR and high PMR are these.
+fn with_regions(mut image: Image, dpr: Region, low: Region, high: Region) -> Finding {
+    image.set_regions(dpr, low, high);
+    finding::first(&image.parts(), &image.platform, MOST_PAGES).expect("a refusal")
 }
 
-/// All three regions are named.
+fn strings(texts: &[&str]) -> Vec<String> {
+    texts.iter().map(|text| text.to_string()).collect()
+}
+
+/// The low PMR that holds the tables of `outside`, and no page.
+const LOW_TABLES: &str = "PMR low (0xffffd000 to 0xffffffff)";
+const NOT_LOW: &str = "PMR low (0xffffd000 to 0xffffffff) does not hold it";
+
+/// Holds what is said of 20, for three pages from 4 GiB on with this DPR and high PMR (base and size), to: which page, what was expected of it,
+/// and the notes. The tables are in the low PMR, which ends where the pages begin.
+fn outside(dpr: Region, high: Region, page: u64, expected: &str, notes: &[&str]) {
+    let image = image(&Shape { base: 0xffff_d000, pages: 3, ..Shape::default() });
+    let finding = with_regions(image, dpr, (0xffff_d000, 0x3000), high);
+    let (entry, linear) = (0x2000 + 8 * page, 0x1000 * page);
+    let place = format!(
+        "entry {page} of the page table at 0xfffff000 (physical {:#x}, window offset {entry:#x}), which maps linear {linear:#x}",
+        0xffff_d000 + entry
+    );
+    let found = format!("page {:#x} to {:#x}", (1 << 32) + linear, (1 << 32) + linear + 0xfff);
+    assert_eq!(finding, Finding { number: 20, place, expected: expected.to_string(), found, notes: strings(notes), field: None });
+}
+
+/// All three regions are named, and those that hold a part of it.
 #[test]
 fn a_first_page_in_no_region() {
-    let expected = "wholly in one of DPR (0x104000 to 0x105fff), PMR low (0x103001 to 0x105fff), PMR high (of size 0)";
-    outside((0x104000, 0x2000), (0x103001, 0x2fff), 0, expected, &[]);
+    let expected =
+        format!("wholly in one of DPR (0x100001000 to 0x100002fff), {LOW_TABLES}, PMR high (0x100000001 to 0x100002fff)");
+    let part = "PMR high (0x100000001 to 0x100002fff) holds a part of it only";
+    outside((0x1_0000_1000, 0x2000), (0x1_0000_0001, 0x2fff), 0, &expected, &[part]);
+    let expected = format!("wholly in one of DPR (of size 0), {LOW_TABLES}, PMR high (of size 0)");
+    outside((0, 0), (0, 0), 0, &expected, &[]);
 }
 
 /// The region that holds every page before it is named, and why the others will not do.
 #[test]
 fn a_later_page_outside_one_region() {
-    let expected = "wholly in DPR (0x100000 to 0x103fff), which holds every page before it";
-    let other = "PMR low (0x103001 to 0x105fff) holds it, but not the first page, 0x103000 to 0x103fff";
-    outside((0x100000, 0x4000), (0x103001, 0x2fff), 1, expected, &[other, NO_HIGH]);
-    let expected = "wholly in PMR low (0x103000 to 0x105ffe), which holds every page before it";
-    let other = "DPR (0x104000 to 0x105fff) holds it, but not the first page, 0x103000 to 0x103fff";
-    outside((0x104000, 0x2000), (0x103000, 0x2fff), 2, expected, &[other, NO_HIGH]);
-    outside((0x103000, 0x1000), (0x103000, 0x2fff), 2, expected, &["DPR (0x103000 to 0x103fff) does not hold it", NO_HIGH]);
+    let expected = "wholly in DPR (0xffffd000 to 0x100000fff), which holds every page before it";
+    let other = "PMR high (0x100000001 to 0x100002fff) holds it, but not the first page, 0x100000000 to 0x100000fff";
+    outside((0xffff_d000, 0x4000), (0x1_0000_0001, 0x2fff), 1, expected, &[NOT_LOW, other]);
+    let expected = "wholly in PMR high (0x100000000 to 0x100002ffe), which holds every page before it";
+    let other = "DPR (0x100001000 to 0x100002fff) holds it, but not the first page, 0x100000000 to 0x100000fff";
+    outside((0x1_0000_1000, 0x2000), (1 << 32, 0x2fff), 2, expected, &[other, NOT_LOW]);
+    let other = "DPR (0x100000000 to 0x100000fff) does not hold it";
+    outside((1 << 32, 0x1000), (1 << 32, 0x2fff), 2, expected, &[other, NOT_LOW]);
 }
 
 /// Two regions are two, also where their ranges are equal.
 #[test]
 fn a_later_page_outside_two_regions() {
     let expected =
-        "wholly in one of DPR (0x103000 to 0x104fff), PMR low (0x103000 to 0x105ffe), each of which holds every page before it";
-    outside((0x103000, 0x2000), (0x103000, 0x2fff), 2, expected, &[NO_HIGH]);
+        "wholly in one of DPR (0x100000000 to 0x100001fff), PMR high (0x100000000 to 0x100002ffe), each of which holds every page before it";
+    outside((1 << 32, 0x2000), (1 << 32, 0x2fff), 2, expected, &[NOT_LOW]);
     let expected =
-        "wholly in one of DPR (0x103000 to 0x104fff), PMR low (0x103000 to 0x104fff), each of which holds every page before it";
-    outside((0x103000, 0x2000), (0x103000, 0x2000), 2, expected, &[NO_HIGH]);
+        "wholly in one of DPR (0x100000000 to 0x100001fff), PMR high (0x100000000 to 0x100001fff), each of which holds every page before it";
+    outside((1 << 32, 0x2000), (1 << 32, 0x2000), 2, expected, &[NOT_LOW]);
 }
 
-/// What the tool prints of that, as text and as JSON.
+/// Holds what is said of 20 for a table: where it is named, which it is, and the notes. DPR and low PMR are given up to, not including, their ends.
+/// The pointer table at 0x100000 has two directories behind it, then a page table of each, then the pages.
+fn table_outside(dpr: (u64, u64), low: (u64, u64), place: &str, found: &str, notes: &[&str]) {
+    let image = image(&Shape { pages: 3, first: 512 * 512 - 1, ..Shape::default() });
+    assert_eq!(image.listed[0], 0x105000);
+    let finding = with_regions(image, (dpr.0, dpr.1 - dpr.0), (low.0, low.1 - low.0), (0, 0));
+    let expected = format!(
+        "wholly in one of DPR ({:#x} to {:#x}), PMR low ({:#x} to {:#x}), PMR high (of size 0)",
+        dpr.0,
+        dpr.1 - 1,
+        low.0,
+        low.1 - 1
+    );
+    let (place, found) = (place.to_string(), found.to_string());
+    assert_eq!(finding, Finding { number: 20, place, expected, found, notes: strings(notes), field: None });
+}
+
+/// A table is named by its kind and by what names it: OsSinitData, or an entry, with the entry of the pointer table that leads there.
+#[test]
+fn a_table_in_no_region() {
+    let base = "page table base, offset 8 in OsSinitData (heap offset 0x20)";
+    let found = "table page 0x100000 to 0x100fff (pointer table)";
+    table_outside((0x101000, 0x108000), (0xf0000, 0x100000), base, found, &[]);
+    let parts = ["DPR (0x100001 to 0x107fff) holds a part of it only", "PMR low (0xf0000 to 0x100ffe) holds a part of it only"];
+    table_outside((0x100001, 0x108000), (0xf0000, 0x100fff), base, found, &parts);
+    table_outside(
+        (0x100000, 0x101000),
+        (0x102000, 0x108000),
+        "entry 0 of the pointer table at 0x100000 (physical 0x100000, window offset 0x0)",
+        "table page 0x101000 to 0x101fff (directory)",
+        &[],
+    );
+    table_outside(
+        (0x100000, 0x102001),
+        (0x103000, 0x108000),
+        "entry 1 of the pointer table at 0x100000 (physical 0x100008, window offset 0x8)",
+        "table page 0x102000 to 0x102fff (directory)",
+        &["DPR (0x100000 to 0x102000) holds a part of it only"],
+    );
+    table_outside(
+        (0x100000, 0x103000),
+        (0x103fff, 0x108000),
+        "entry 511 of the directory at 0x101000 (physical 0x101ff8, window offset 0x1ff8), under entry 0 of the pointer table",
+        "table page 0x103000 to 0x103fff (page table)",
+        &["PMR low (0x103fff to 0x107fff) holds a part of it only"],
+    );
+    table_outside(
+        (0x105000, 0x108000),
+        (0x100000, 0x104000),
+        "entry 0 of the directory at 0x102000 (physical 0x102000, window offset 0x2000), under entry 1 of the pointer table",
+        "table page 0x104000 to 0x104fff (page table)",
+        &[],
+    );
+}
+
+/// The 41st table is named like that, too.
+#[test]
+fn one_table_too_many() {
+    let image = image(&Shape { empty_tables: 38, ..Shape::default() });
+    let finding = finding::first(&image.parts(), &image.platform, MOST_PAGES).expect("a refusal");
+    let place =
+        "entry 38 of the directory at 0x101000 (physical 0x101130, window offset 0x1130), under entry 0 of the pointer table";
+    let (expected, found) = ("at most 40 table pages, the base counted", "0x128000, table page 41");
+    assert_eq!((finding.number, finding.place.as_str()), (18, place));
+    assert_eq!((finding.expected.as_str(), finding.found.as_str()), (expected, found));
+}
+
+/// What the tool prints of a table, as text and as JSON.
+#[test]
+fn the_tool_shows_the_table() {
+    let name = stored("20-x-directory-before-entry-14.cap");
+    let shown = "
+  where     entry 0 of the pointer table at 0x101000 (physical 0x101000, window
+            offset 0x1000)
+  expected  wholly in one of DPR (0x101000 to 0x101fff), PMR low (0x103000 to
+            0x105fff), PMR high (of size 0)
+  found     table page 0x102000 to 0x102fff (directory)
+";
+    let ran = run(&["check", "--capture", &name]);
+    assert!(ran.status == REFUSED && ran.out.contains(shown), "{}", ran.out);
+    let ran = run(&["check", "--capture", &name, "--json"]);
+    let shown = "\"found\": \"table page 0x102000 to 0x102fff (directory)\", \"notes\": []}";
+    assert!(ran.status == REFUSED && ran.out.contains(shown), "{}", ran.out);
+}
+
+/// What is found of LcpHashAlgMask, under ANY and under LIST, and of the record by itself.
+#[test]
+fn the_mask_of_a_record() {
+    let any = image(&Shape::default());
+    for good in [under_list(&any), any] {
+        assert_eq!(finding::first_in_record(&good.record), None);
+        for (mask, found) in [(0, "0x0000"), (0xfff7, "0xfff7"), (0x0800, "0x0800")] {
+            let mut image = good.clone();
+            put(&mut image.record, HASH_ALG_MASK, mask, 2);
+            let place = "LcpHashAlgMask, record offset 28".to_string();
+            let expected = "the bit 0x0008 (SHA-256) set".to_string();
+            let finding = Some(Finding { number: 23, place, expected, found: found.to_string(), notes: Vec::new(), field: None });
+            assert_eq!(finding::find(refused(23), &image.parts(), &image.platform, MOST_PAGES), finding);
+            assert_eq!(finding::first_in_record(&image.record), finding);
+        }
+    }
+}
+
+/// Of several wrong fields of a record the first is named.
+#[test]
+fn the_first_wrong_field_of_a_record() {
+    let mut record = image(&Shape::default()).record;
+    for (at, number, width, field) in [
+        (HASH_ALG_MASK, 0, 2, "LcpHashAlgMask, record offset 28"),
+        (4, 2, 1, "type, record offset 4"),
+        (2, 0x000c, 2, "HashAlg, record offset 2"),
+        (0, 0x0200, 2, "version, record offset 0"),
+    ] {
+        put(&mut record, at, number, width);
+        assert_eq!(finding::first_in_record(&record).map(|finding| finding.place), Some(field.to_string()));
+    }
+    record.pop();
+    assert_eq!(finding::first_in_record(&record).map(|finding| finding.found), Some("69 bytes".to_string()));
+}
+
+/// What the tool prints of a later page, as text and as JSON.
 #[test]
 fn the_tool_shows_the_regions() {
     let name = stored("20-three-pages-leaves-none.cap");
@@ -244,11 +377,12 @@ fn one_is_not_many() {
 fn every_field_of_22_and_23_has_a_line_for_the_rack() {
     for (number, fields) in [
         (22, &["MLE header base", "HeaderLen", "UUID", "version", "EntryPoint", "FirstValidPage", "MleEnd"][..]),
-        (23, &["HashAlg"]),
+        (23, &["HashAlg", "LcpHashAlgMask"]),
     ] {
         let lines = refusals::text(number).expect("a text").technician;
         for field in fields {
-            assert!(lines.iter().any(|line| line.starts_with("If ") && line.contains(field)), "{number}: no line for {field}");
+            let named = |line: &&str| line.starts_with("If ") && line.contains(&format!(" {field}"));
+            assert!(lines.iter().any(named), "{number}: no line for {field}");
         }
     }
 }

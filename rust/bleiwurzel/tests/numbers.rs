@@ -126,6 +126,21 @@ const NUMBERS: &[Number] = &[
         said: |n| vec![format!("the first {n} bytes of the record"), format!("const uint8_t fields[{n}]")],
     },
     Number {
+        value: policy::SHA256_PERMITTED as u64,
+        rattle: &[],
+        macros: &[],
+        said: |n| {
+            vec![format!("in LcpHashAlgMask the bit {n:#06x} (SHA-256)."), format!("without whose bit {n:#06x} it refuses")]
+        },
+    },
+    // In the Rattle sources the bit has its number.
+    Number {
+        value: policy::SHA256_PERMITTED.trailing_zeros() as u64,
+        rattle: &["SHA256_BIT", "sha256Bit"],
+        macros: &[],
+        said: nothing,
+    },
+    Number {
         value: policy::LEAST as u64,
         rattle: &["FIRST_LIST", "firstList"],
         macros: &["BLEIWURZEL_LEAST_POLICY"],
@@ -413,6 +428,20 @@ fn the_texts_say_the_same_limits() {
         ("docs/REFUSALS.md", format!("and these are more than {MOST_RESERVED}.")),
         ("docs/REFUSALS.md", format!("In a program that has more than {MOST_RESERVED} reserved ranges,")),
         ("rust/bleiwurzel/src/cli/help.rs", format!("up to {MOST_RESERVED} ranges in all.")),
+    ];
+    said.iter().for_each(|(file, said)| hold_said(file, said));
+}
+
+/// The bit that LcpHashAlgMask must have, as sentences of several texts say it.
+#[test]
+fn the_texts_say_the_same_bit_of_the_mask() {
+    let bit = policy::SHA256_PERMITTED;
+    let said = [
+        ("docs/REFUSALS.md", format!("LcpHashAlgMask 28 (16) has the bit {bit:#06x} (SHA-256), and its other bits are free.")),
+        ("docs/REFUSALS.md", format!("leave out the key `lcp-hash-alg-mask`, which is {bit:#06x} then,")),
+        ("rust/bleiwurzel/src/cli/help.rs", format!("lcp-hash-alg-mask={bit:#06x}\n")),
+        ("rust/bleiwurzel/src/cli/help.rs", format!("the check wants the bit {bit}, SHA-256\n")),
+        ("README.md", format!("with the bit {bit:#06x} in LcpHashAlgMask")),
     ];
     said.iter().for_each(|(file, said)| hold_said(file, said));
 }

@@ -26,7 +26,7 @@ fn a_permitted_capture() {
 
 #[test]
 fn a_refused_capture() {
-    let ran = run(&["check", "--capture", &stored("20-dpr-second-page-only.cap")]);
+    let ran = run(&["check", "--capture", &stored("20-dpr-second-page-only-tables-safe.cap")]);
     assert_eq!(
         (ran.status, ran.out.as_str(), ran.err.as_str()),
         (REFUSED, shown_in_readme("refused 20, not protected").as_str(), "")

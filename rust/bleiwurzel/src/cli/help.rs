@@ -198,7 +198,7 @@ for each. A key that is left out has the value that is shown here:
                            8 bits
     reserved=0             8 bits, at offset 27
     lcp-hash-alg-mask=0x0008
-                           16 bits; 8 is SHA-256
+                           16 bits; the check wants the bit 8, SHA-256
     lcp-sign-alg-mask=0x00000008
                            32 bits; 8 is RSA of 2,048 bits with SHA-256
     reserved2=0            32 bits, at offset 34
@@ -217,11 +217,12 @@ for each. A key that is left out has the value that is shown here:
     body=..                must be given: digits, or @ and the name of a file
 
 Names of files behind @ count from the description's folder, or from the current
-one where the description is standard input. The fields of the record are not
-judged here; bleiwurzel check judges them. Where an old record asks for counters
-or a sinit-min-version, give these again: without them the new one asks for 0,
-and what was revoked passes. tboot's tools write custom elements with type 0x13,
-which cannot be written here.
+one where the description is standard input. The record is written as it is
+asked for; if bleiwurzel check refuses every image with it (23), standard error
+says so. Where an old record asks for counters or a sinit-min-version, give
+these again: without them the new one asks for 0, and what was revoked passes.
+tboot's tools write custom elements with type 0x13, which cannot be written
+here.
 
 A description:
   # Hosts 17 to 20.

@@ -4,8 +4,8 @@ use super::args::{self, Args, OUTPUT, RECORD};
 use super::description::{self, Described, ElementLine};
 use super::json::Json;
 use super::save::{self, Output};
-use super::{files, help, misuse, names, report, say, say_aside, Misuse, Said, YES};
-use bleiwurzel::finding::{Finding, Length};
+use super::{complain, files, help, misuse, names, report, say, say_aside, Misuse, Said, YES};
+use bleiwurzel::finding::{first_in_record, Finding, Length};
 use bleiwurzel::policy::{self, ElementDescription, Written};
 use bleiwurzel::text::{bytes, digits};
 use bleiwurzel::{Refusal, RECORD_FIELDS};
@@ -40,12 +40,23 @@ pub fn run(words: Vec<OsString>) -> Result<Said, Misuse> {
         Output { flag: RECORD, path: record, bytes: &written.record },
     ];
     save::write_all(&outputs, HELP)?;
+    warn_of(&written.record);
     // Said here: where it cannot be, the files are there all the same.
     say(&wrote(&outputs, &written, args.has("--json"))).or_else(|error| {
         let [file, record] = [file, record].map(names::shown);
         misuse(HELP, format!("'{file}' and '{record}' were written, but that cannot be said on standard output: {error}"))
     })?;
     Ok(Said { text: String::new(), status: YES })
+}
+
+/// Says of a record with which no image is permitted why that is so. It is written all the same, since its fields are the caller's.
+fn warn_of(record: &[u8]) {
+    if let Some(Finding { number, place, expected, found, .. }) = first_in_record(record) {
+        let why = format!("{place}: expected {expected}, found {found}");
+        complain(&format!(
+            "the record was written, but with it bleiwurzel check permits no image: {why}; see bleiwurzel refusals {number}"
+        ));
+    }
 }
 
 /// The files that are to be written: the policy file, and its record.

@@ -4,7 +4,7 @@ use super::grammar::File;
 use super::heap::OsSinitData;
 use super::module::Module;
 use super::{bytes_of, digits, field, need, noted, Length, Step};
-use crate::policy::{self, Body, Element, List, Signed, SHA256};
+use crate::policy::{self, Body, Element, List, Signed, SHA256, SHA256_PERMITTED};
 use crate::{sha256, RECORD_LENGTH};
 
 /// A list with its elements.
@@ -19,6 +19,7 @@ pub struct Record {
     hash: Vec<u8>,
 }
 
+/// Rule 23, its fields in the order of their offsets.
 pub fn record(record: &[u8], length: &Length) -> Step<Record> {
     let expected = format!("exactly {RECORD_LENGTH} bytes");
     let fits = length.bytes == RECORD_LENGTH as u64;
@@ -30,6 +31,10 @@ pub fn record(record: &[u8], length: &Length) -> Step<Record> {
     need(algorithm == u64::from(SHA256), 23, "HashAlg, record offset 2", expected, format!("{algorithm:#06x}"))?;
     let kind = field(record, 4, 1);
     need(kind <= 1, 23, "type, record offset 4", "0 (LIST) or 1 (ANY)", kind.to_string())?;
+    let mask = field(record, 28, 2);
+    let permitted = mask & u64::from(SHA256_PERMITTED) != 0;
+    let expected = format!("the bit {SHA256_PERMITTED:#06x} (SHA-256) set");
+    need(permitted, 23, "LcpHashAlgMask, record offset 28", expected, format!("{mask:#06x}"))?;
     Ok(Record {
         any: kind == 1,
         counters: (0..policy::MOST_LISTS as usize).map(|list| field(record, policy::counter_at(list) as u64, 2)).collect(),

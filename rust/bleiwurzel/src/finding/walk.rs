@@ -15,7 +15,7 @@ struct Region {
 }
 
 impl Region {
-    /// Whether all bytes of a page lie in it.
+    /// Whether all bytes of a table or a page lie in it.
     fn holds(&self, page: &MemoryRange) -> bool {
         page.base >= self.range.base && page.end() <= self.range.end()
     }
@@ -81,6 +81,15 @@ impl Level {
         }
     }
 
+    /// The level of the tables that its entries name; none where they name pages.
+    fn below(self) -> Option<Level> {
+        match self {
+            Level::Pointer => Some(Level::Directory),
+            Level::Directory => Some(Level::Page),
+            Level::Page => None,
+        }
+    }
+
     fn entries(self) -> u64 {
         if self == Level::Pointer {
             4
@@ -121,6 +130,7 @@ pub fn walk(window: &[u8], memory: &Memory, base: u64) -> Step<Mapped> {
     let mut walk = Walk { window, memory, last: base, tables: 1, common: memory.regions.to_vec() };
     walk.inside(base, || place.to_string())?;
     walk.clear(base, || place.to_string())?;
+    walk.table_protected(Level::Pointer, base, || place.to_string())?;
     let directories = walk.level(Level::Pointer, &[Table { address: base, first: 0 }])?;
     let tables = walk.level(Level::Directory, &directories)?;
     let pages = walk.level(Level::Page, &tables)?;
@@ -144,22 +154,20 @@ impl Walk<'_> {
             self.inside(address, place)?;
             self.above(address, place)?;
             self.clear(address, place)?;
-            if level == Level::Page {
-                follows(named.last(), linear, place)?;
-                self.common = self.protected(address, named.first(), place)?;
-            } else {
-                let found = format!("{address:#x}, table page {}", self.tables + 1);
-                need(
-                    self.tables < MOST_TABLES,
-                    18,
-                    place(),
-                    format!("at most {MOST_TABLES} table pages, the base counted"),
-                    found,
-                )?;
-                self.tables += 1;
-            }
+            let first = match level.below() {
+                None => {
+                    follows(named.last(), linear, place)?;
+                    self.common = self.page_protected(address, named.first(), place)?;
+                    linear
+                }
+                Some(below) => {
+                    self.few_tables(address, place)?;
+                    self.table_protected(below, address, place)?;
+                    self.tables += 1;
+                    linear * 512
+                }
+            };
             self.last = address;
-            let first = if level == Level::Page { linear } else { linear * 512 };
             named.push(Table { address, first });
         }
         Ok(named)
@@ -167,10 +175,14 @@ impl Walk<'_> {
 
     fn place(&self, level: Level, table: &Table, index: u64, linear: u64) -> String {
         let at = table.address + 8 * index;
-        let mapped = if level == Level::Page { format!(", which maps linear {:#x}", linear * PAGE_SIZE) } else { String::new() };
+        let in_the_tree = match level {
+            Level::Pointer => String::new(),
+            Level::Directory => format!(", under entry {} of the pointer table", linear / 512),
+            Level::Page => format!(", which maps linear {:#x}", linear * PAGE_SIZE),
+        };
         let offset = at - self.memory.window.base;
         format!(
-            "entry {index} of the {} at {:#x} (physical {at:#x}, window offset {offset:#x}){mapped}",
+            "entry {index} of the {} at {:#x} (physical {at:#x}, window offset {offset:#x}){in_the_tree}",
             level.name(),
             table.address
         )
@@ -206,28 +218,36 @@ impl Walk<'_> {
         }
     }
 
-    /// The regions that hold this page and every one before it. `first` is the first of all pages, where that is another.
-    fn protected(&self, address: u64, first: Option<&Table>, place: impl Fn() -> String) -> Step<Vec<Region>> {
+    fn few_tables(&self, address: u64, place: impl Fn() -> String) -> Step<()> {
+        if self.tables < MOST_TABLES {
+            return Ok(());
+        }
+        let expected = format!("at most {MOST_TABLES} table pages, the base counted");
+        need(false, 18, place(), expected, format!("{address:#x}, table page {}", self.tables + 1))
+    }
+
+    /// Rule 20 of a table of this level: any one region will do, whatever those of other tables and of the pages are.
+    fn table_protected(&self, level: Level, address: u64, place: impl Fn() -> String) -> Step<()> {
+        let (table, regions) = (page_at(address), &self.memory.regions);
+        if !holding(regions, &table).is_empty() {
+            return Ok(());
+        }
+        let found = format!("table page {} ({})", shown(&table), level.name());
+        noted(20, place(), one_of(regions, false), found, partly(regions, &table))
+    }
+
+    /// Rule 20 of a page: the regions that hold it and every one before it. `first` is the first of all pages, where that is another.
+    fn page_protected(&self, address: u64, first: Option<&Table>, place: impl Fn() -> String) -> Step<Vec<Region>> {
         let page = page_at(address);
-        let common: Vec<Region> = self.common.iter().copied().filter(|region| region.holds(&page)).collect();
+        let common = holding(&self.common, &page);
         if !common.is_empty() {
             return Ok(common);
         }
-        noted(
-            20,
-            place(),
-            self.common_regions(first.is_some()),
-            format!("page {}", shown(&page)),
-            first.map_or(Vec::new(), |first| self.other_regions(&page, &page_at(first.address))),
-        )
-    }
-
-    /// The regions of which one must hold a page, and for a later page why it is these.
-    fn common_regions(&self, later: bool) -> String {
-        let regions: Vec<String> = self.common.iter().map(Region::to_string).collect();
-        let (one_of, which) = if regions.len() == 1 { ("", "which") } else { ("one of ", "each of which") };
-        let why = if later { format!(", {which} holds every page before it") } else { String::new() };
-        format!("wholly in {one_of}{}{why}", regions.join(", "))
+        let notes = match first {
+            Some(first) => self.other_regions(&page, &page_at(first.address)),
+            None => partly(&self.common, &page),
+        };
+        noted(20, place(), one_of(&self.common, first.is_some()), format!("page {}", shown(&page)), notes)
     }
 
     /// Why none of the other regions will do for a later page. A region is one range and the pages ascend, so one with the first page and this
@@ -243,6 +263,25 @@ impl Walk<'_> {
         };
         self.memory.regions.iter().filter(other).map(why).collect()
     }
+}
+
+/// Those of the regions in which all of a table or a page lies.
+fn holding(regions: &[Region], page: &MemoryRange) -> Vec<Region> {
+    regions.iter().copied().filter(|region| region.holds(page)).collect()
+}
+
+/// The regions of which one must hold a table or a page, and for a later page why it is these.
+fn one_of(regions: &[Region], later: bool) -> String {
+    let shown: Vec<String> = regions.iter().map(Region::to_string).collect();
+    let (one_of, which) = if shown.len() == 1 { ("", "which") } else { ("one of ", "each of which") };
+    let why = if later { format!(", {which} holds every page before it") } else { String::new() };
+    format!("wholly in {one_of}{}{why}", shown.join(", "))
+}
+
+/// Which of the regions hold some bytes of a table or a page that none holds wholly.
+fn partly(regions: &[Region], page: &MemoryRange) -> Vec<String> {
+    let some = regions.iter().filter(|region| region.range.touches(page));
+    some.map(|region| format!("{region} holds a part of it only")).collect()
 }
 
 fn page_at(address: u64) -> MemoryRange {

@@ -1,9 +1,10 @@
 //! What stands in a policy record before its PolicyHash.
 
-use super::{MOST_LISTS, SHA256};
+use super::{MOST_LISTS, SHA256, SHA256_PERMITTED};
 use crate::RECORD_FIELDS;
 
-/// The fields of a policy record (LCP_POLICY2) without its PolicyHash. The writer judges none of them; rules 23 to 25 and 29 judge some.
+/// The fields of a policy record (LCP_POLICY2) without its PolicyHash. The writer judges none of them; rules 23 to 25 and 29 judge some, and
+/// [`first_in_record`](crate::finding::first_in_record) says what 23 finds.
 #[derive(Clone, Copy, Debug, PartialEq, Eq)]
 pub struct RecordFields {
     pub version: u16,
@@ -16,6 +17,7 @@ pub struct RecordFields {
     pub control: u32,
     pub max_sinit_min_version: u8,
     pub reserved: u8,
+    /// The algorithms that the record permits; rule 23 wants [`SHA256_PERMITTED`] among them.
     pub lcp_hash_alg_mask: u16,
     pub lcp_sign_alg_mask: u32,
     pub reserved2: u32,
@@ -34,7 +36,7 @@ impl Default for RecordFields {
             control: 0,
             max_sinit_min_version: 0xff,
             reserved: 0,
-            lcp_hash_alg_mask: 0x0008,
+            lcp_hash_alg_mask: SHA256_PERMITTED,
             lcp_sign_alg_mask: 0x0008,
             reserved2: 0,
         }

@@ -17,8 +17,10 @@ mod order;
 mod places;
 mod protection;
 mod record;
+mod regions;
 mod reserved;
 mod stm;
 #[path = "../common/stored_image.rs"]
 mod stored_image;
+mod tables;
 mod walk;

@@ -2,13 +2,10 @@
 //! is no flag 16 to be set.
 
 use crate::common::*;
-use plain_sha256::digest_in_parts;
 
 /// A LIST policy that permits, with a record whose SINITMinVersion is the module's AcmVersion, 5.
 fn listed() -> Image {
-    let image = spread(BASE);
-    let digest = digest_in_parts(&image.bytes(), 0);
-    let mut image = with_lists(&image, &[list(&[launch(0, &[digest])])]);
+    let mut image = under_list(&spread(BASE));
     image.record[5] = 5;
     image
 }
@@ -46,6 +43,83 @@ fn fields() {
             ),
         ],
     );
+}
+
+/// Of LcpHashAlgMask the bit of SHA-256 counts and no other, under ANY too.
+#[test]
+fn hash_alg_mask() {
+    fn mask(i: &mut Image, mask: u64) {
+        field(i, HASH_ALG_MASK, mask, 2);
+    }
+    /// What stands before and behind it is all ones.
+    fn between(i: &mut Image, number: u64) {
+        i.record[26..38].fill(0xff);
+        mask(i, number);
+    }
+    for good in [listed(), spread(BASE)] {
+        hold(
+            &good,
+            &[
+                ("0x0008", |i| mask(i, 0x0008), 0),
+                ("0x0000", |i| mask(i, 0x0000), 23),
+                ("0xffff", |i| mask(i, 0xffff), 0),
+                ("0xfff7", |i| mask(i, 0xfff7), 23),
+                ("0x0004", |i| mask(i, 0x0004), 23),
+                ("0x000c", |i| mask(i, 0x000c), 0),
+                ("0x0010", |i| mask(i, 0x0010), 23),
+                ("0x0007", |i| mask(i, 0x0007), 23),
+                ("0x0800, with its bytes exchanged", |i| mask(i, 0x0800), 23),
+                ("0x0808", |i| mask(i, 0x0808), 0),
+                ("0x000b, as HashAlg is", |i| mask(i, 0x000b), 0),
+                ("0x0061, as SHA-1, SM3 and SHA-384 are", |i| mask(i, 0x0061), 23),
+                ("0x0008 between ones", |i| between(i, 0x0008), 0),
+                ("0x0000 between ones", |i| between(i, 0x0000), 23),
+            ],
+        );
+    }
+    for (bit, mut image) in (0..16).flat_map(|bit| [(bit, listed()), (bit, spread(BASE))]) {
+        let name = format!("bit {bit} alone");
+        mask(&mut image, 1 << bit);
+        assert_eq!(asked(&name, &image).number, if bit == 3 { 0 } else { 23 }, "{name}");
+    }
+}
+
+/// It comes behind rule 22, and before 24 to 26.
+#[test]
+fn order_of_the_hash_alg_mask() {
+    /// A mask of 0, and something else that is wrong.
+    fn and(i: &mut Image, change: fn(&mut Image)) {
+        i.record[HASH_ALG_MASK] = 0;
+        change(i);
+    }
+    fn header(i: &mut Image) {
+        i.window[ONE * PAGE] ^= 1;
+    }
+    fn debug(i: &mut Image) {
+        put(&mut i.sinit, 14, 0x8000, 2);
+    }
+    fn version(i: &mut Image) {
+        i.record[5] = 6;
+    }
+    fn no_file(i: &mut Image) {
+        put(&mut i.heap, POLICY_SIZE, 0, 8);
+    }
+    for good in [listed(), spread(BASE)] {
+        hold(
+            &good,
+            &[
+                ("an MLE header without its UUID", header, 22),
+                ("an MLE header without its UUID, and a mask of 0", |i| and(i, header), 22),
+                ("a debug module", debug, 24),
+                ("a debug module, and a mask of 0", |i| and(i, debug), 23),
+                ("SINITMinVersion above AcmVersion", version, 25),
+                ("SINITMinVersion above AcmVersion, and a mask of 0", |i| and(i, version), 23),
+            ],
+        );
+    }
+    let both: Case = ("no policy file, and a mask of 0", |i| and(i, no_file), 23);
+    hold(&listed(), &[("no policy file", no_file, 26), both]);
+    hold(&spread(BASE), &[("no policy file, under ANY", no_file, 0), both]);
 }
 
 /// Under LIST the list is reported, under ANY 255, whatever the policy file is.

@@ -1,10 +1,11 @@
 //! Rules 14 to 19: the table base, entry bits, the window, the order of addresses, forbidden ranges, the number of tables and linear gaps.
-//! `protection` has rule 20, and `reserved` the platform's own ranges.
+//! `protection` has rule 20 of the pages, `tables` that of the tables, and `reserved` the platform's own ranges.
 //!
 //! Heap and module have at least 124 and 704 bytes here, and a module begins on a page, since lower rules ask for that: an empty heap
 //! inside a table, and a heap or module of one byte, cannot be shown by the whole check.
 
 use crate::common::*;
+use crate::regions::{hold_answered, Answered::*};
 
 fn good() -> Image {
     spread(BASE)
@@ -360,9 +361,6 @@ fn breadth_first() {
             i.maps(0, &[page]);
         }
     }
-    fn first_page_only(i: &mut Image) {
-        (i.platform.dpr_base, i.platform.dpr_size) = (i.address(ONE), 0x1000);
-    }
     hold(
         &good(),
         &[
@@ -378,15 +376,25 @@ fn breadth_first() {
                 },
                 15,
             ),
+        ],
+    );
+    /// DPR holds the tables and the first page.
+    fn first_page_only(i: &mut Image) {
+        i.platform.dpr_size = ((ONE + 1) * PAGE) as u64;
+    }
+    hold_answered(
+        &good(),
+        &[
+            ("the second page's protection", first_page_only, Page(TWO)),
             (
                 "the second page's protection before the third one's bits",
                 |i| {
                     i.entry_bits(TABLE, 2, 1 << 63 | i.address(11) | 1);
                     first_page_only(i);
                 },
-                20,
+                Page(TWO),
             ),
-            ("the third page's bits", |i| i.entry_bits(TABLE, 2, 1 << 63 | i.address(11) | 1), 14),
+            ("the third page's bits", |i| i.entry_bits(TABLE, 2, 1 << 63 | i.address(11) | 1), Number(14)),
             (
                 "a gap before the protection of the same page",
                 |i| {
@@ -394,7 +402,7 @@ fn breadth_first() {
                     i.entry(TABLE, 2, TWO);
                     first_page_only(i);
                 },
-                19,
+                Number(19),
             ),
         ],
     );

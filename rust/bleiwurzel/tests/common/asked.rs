@@ -50,17 +50,26 @@ pub fn printed(answer: &Answer, pages: &[u64]) -> String {
     format!("permitted pages={} list={}\n{addresses}", answer.pages, answer.list)
 }
 
-/// What is changed in a good image, and the number that the check answers for it then.
-pub type Case = (&'static str, fn(&mut Image), u32);
+/// What is changed in a good image, and what the check answers for it then.
+pub type Changed<T> = (&'static str, fn(&mut Image), T);
+
+/// The same with the answer's number.
+pub type Case = Changed<u32>;
 
 /// Holds the check to a table: says of all cases at once which are not as expected.
 #[track_caller]
 pub fn hold(good: &Image, cases: &[Case]) {
-    let of = |(name, change, number): &Case| {
+    hold_by(good, cases, |name, image, number| (asked(name, image).number.to_string(), number.to_string()));
+}
+
+/// The same where it is told by two texts, of what is given and of what is expected.
+#[track_caller]
+pub fn hold_by<T>(good: &Image, cases: &[Changed<T>], texts: impl Fn(&str, &Image, &T) -> (String, String)) {
+    let of = |(name, change, expected): &Changed<T>| {
         let mut image = good.clone();
         change(&mut image);
-        let given = asked(name, &image).number;
-        (given != *number).then(|| format!("{name}: {given}, not {number}"))
+        let (given, expected) = texts(name, &image, expected);
+        (given != expected).then(|| format!("{name}: {given}, not {expected}"))
     };
     let wrong: Vec<String> = cases.iter().filter_map(of).collect();
     assert!(wrong.is_empty(), "{} of {} cases: {wrong:#?}", wrong.len(), cases.len());

@@ -1,8 +1,8 @@
 //! Policy files that have a description, and a plain writer of them.
 
-use super::{captures, policy_bytes, policy_files};
+use super::{captures, policy_bytes, policy_files, HASH_ALG_MASK};
 use bleiwurzel::policy::{self, ElementDescription, ListDescription};
-use bleiwurzel::{answer_capture, capture};
+use bleiwurzel::{answer, capture, Parts};
 
 /// A stored policy file of unsigned lists and types 0x10 and 3 only.
 pub struct Stored {
@@ -32,10 +32,13 @@ fn described((name, file, record): Found) -> Option<Stored> {
 
 fn files_of_captures() -> impl Iterator<Item = Found> {
     captures().into_iter().filter_map(|(name, bytes)| {
-        let answer = answer_capture(&bytes, &mut vec![0; capture::PLACES]);
         let (parts, platform) = capture::split(&bytes).ok()?;
-        let listed = parts.record.get(4) == Some(&0) && [0, 28, 29].contains(&answer.number);
-        listed.then(|| (name, policy_bytes(&parts, &platform).to_vec(), Some((parts.record.to_vec(), answer.number != 28))))
+        // A record that does not permit SHA-256 is written again as well, so it is asked with one that does.
+        let mut record = parts.record.to_vec();
+        *record.get_mut(HASH_ALG_MASK)? |= 0x08;
+        let number = answer(&Parts { record: &record, ..parts }, &platform, &mut vec![0; capture::PLACES]).number;
+        let listed = record[4] == 0 && [0, 28, 29].contains(&number);
+        listed.then(|| (name, policy_bytes(&parts, &platform).to_vec(), Some((parts.record.to_vec(), number != 28))))
     })
 }
 

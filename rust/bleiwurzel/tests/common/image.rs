@@ -6,6 +6,9 @@ use bleiwurzel::{MemoryRange, Parts, Platform, Reserved, MOST_PAGES, MOST_RESERV
 pub const PAGE: usize = 4096;
 pub const BASE: u64 = 0x10_0000;
 
+/// A region of memory that is protected against DMA, as base and size.
+pub type Region = (u64, u64);
+
 /// What an image is made of. The window is: pointer table, directories, page tables, the pages one behind the other, then `spare` bytes.
 #[derive(Clone)]
 pub struct Shape {
@@ -62,6 +65,9 @@ pub const POLICY_BASE: usize = FIELDS + 64;
 pub const POLICY_SIZE: usize = FIELDS + 72;
 pub const ELEMENTS: usize = FIELDS + 92;
 
+/// The offset in the record of LcpHashAlgMask.
+pub const HASH_ALG_MASK: usize = 28;
+
 /// What the two editions of a module's header settle: version, HeaderLen and KeySize.
 #[derive(Clone, Copy)]
 pub struct Header {
@@ -93,6 +99,15 @@ impl Image {
     pub fn reserve(&mut self, ranges: &[(u64, u64)]) {
         let ranges: Vec<MemoryRange> = ranges.iter().map(|(base, size)| MemoryRange { base: *base, size: *size }).collect();
         self.platform.reserved = Reserved::new(&ranges).expect("at most 16 ranges");
+    }
+
+    /// Gives the image this DPR, low PMR and high PMR.
+    pub fn set_regions(&mut self, dpr: Region, low: Region, high: Region) {
+        (self.platform.dpr_base, self.platform.dpr_size) = dpr;
+        for (at, (base, size)) in [(LOW, low), (HIGH, high)] {
+            put(&mut self.heap, at, base, 8);
+            put(&mut self.heap, at + 8, size, 8);
+        }
     }
 
     /// The physical address of a page of the window.
@@ -197,6 +212,7 @@ fn record() -> Vec<u8> {
     put(&mut record, 0, 0x0302, 2);
     put(&mut record, 2, 0x000b, 2);
     put(&mut record, 4, 1, 1);
+    put(&mut record, HASH_ALG_MASK, 0x0008, 2);
     record
 }
 

@@ -103,6 +103,12 @@ pub fn with_file(image: &Image, file: &[u8], hash: &[u8; 32]) -> Image {
     image
 }
 
+/// The same image under a LIST policy of one list, which names it.
+pub fn under_list(image: &Image) -> Image {
+    let digest = digest_in_parts(&image.bytes(), 0);
+    with_lists(image, &[list(&[launch(0, &[digest])])])
+}
+
 /// The same with the file of these lists.
 pub fn with_lists(image: &Image, lists: &[Vec<u8>]) -> Image {
     let (file, hash) = policy_file(lists);

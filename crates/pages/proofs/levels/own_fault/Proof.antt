@@ -13,14 +13,14 @@ use Rattle.pages.proofs.levels.own_fault.Tie as tie
 enum-told : tie.Need-enum-told
 enum-told c = search needs
 
-unless-requires : tie.Need-unless-requires
-unless-requires c κs = search needs
+table-fault-requires : tie.Need-table-fault-requires
+table-fault-requires c κs = search needs
 
 enum-told-2 : tie.Need-enum-told-2
 enum-told-2 c = search needs
 
-unless-requires-2 : tie.Need-unless-requires-2
-unless-requires-2 c κs = search needs
+table-fault-requires-2 : tie.Need-table-fault-requires-2
+table-fault-requires-2 c κs = search needs
 
 enum-told-3 : tie.Need-enum-told-3
 enum-told-3 c = search needs
@@ -34,17 +34,17 @@ pages-to-requires c κs = search needs
 is-protected-requires : tie.Need-is-protected-requires
 is-protected-requires c κs = search needs
 
-unless-requires-3 : tie.Need-unless-requires-3
-unless-requires-3 c κs = search needs
+unless-requires : tie.Need-unless-requires
+unless-requires c κs = search needs
 
-unless-requires-4 : tie.Need-unless-requires-4
-unless-requires-4 c κs = search needs
+unless-requires-2 : tie.Need-unless-requires-2
+unless-requires-2 c κs = search needs
 
 returns : tie.Need-returns
-returns c reserved = simp (c .before .before .enum-told .given .1, c .unless .ensures)
+returns c reserved = simp (c .before .enum-told .given .1, c .table-fault .ensures reserved)
 
 returns-2 : tie.Need-returns-2
-returns-2 c reserved = simp (c .before .before .enum-told2 .given .1, c .unless2 .ensures)
+returns-2 c reserved = simp (c .before .enum-told2 .given .1, c .table-fault2 .ensures reserved)
 
 returns-3 : tie.Need-returns-3
 returns-3 c reserved =
@@ -55,22 +55,22 @@ returns-3 c reserved =
     d .is-protected .ensures reserved
     ∙ ap (λ (pages : Range). any (insideOf pages) (regions m)) (d .before .pages-to .ensures)
     ∙ protected-is (start .args .p) (start .args .a) (start .pre) m in
-    simp (d .before .before .before .enum-told3 .given .1, c .unless4 .ensures, c .before .unless3 .ensures, is, d .before .before .page-follows .ensures)
+    simp (d .before .before .before .enum-told3 .given .1, c .unless2 .ensures, c .before .unless .ensures, is, d .before .before .page-follows .ensures)
 
 pub own-fault-spec : {M : Type 1} → statement M
 own-fault-spec =
     tie.close
     (tie.spec
     enum-told
-    unless-requires
+    table-fault-requires
     enum-told-2
-    unless-requires-2
+    table-fault-requires-2
     enum-told-3
     page-follows-requires
     pages-to-requires
     is-protected-requires
-    unless-requires-3
-    unless-requires-4
+    unless-requires
+    unless-requires-2
     returns
     returns-2
     returns-3)

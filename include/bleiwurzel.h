@@ -307,7 +307,7 @@ uint32_t bleiwurzel_policy_element_at(const uint8_t *file, size_t file_length, s
  *   bodies: the bodies of all elements, one behind the other in the same order and nothing else. A body of type 0x10 is SINITMinVersion (8 bits),
  *   reserved (8), HashAlg (16), count (16) and as many digests; one of type 3 is any bytes.
  *   fields: the first 38 bytes of the record, all that stands before PolicyHash. They are not judged; bleiwurzel_check judges some (23 to 25),
- *   among them LcpHashAlgMask, 16 bits at 28, without whose bit 0x0008 it refuses every image with 23.
+ *   among them LcpHashAlgMask, 16 bits at 28, without whose bit 0x0008 it permits no image (23).
  * Written: file, a buffer of `room` bytes: on 0 the policy file stands from its first byte on, and the bytes past the file stay; on a refusal
  * every byte stays. length always: how many bytes the file has, or 0 on a refusal. record always: the fields and behind them PolicyHash, which is
  * right for the file; or 70 zeros on a refusal.

@@ -130,7 +130,10 @@ const NUMBERS: &[Number] = &[
         rattle: &[],
         macros: &[],
         said: |n| {
-            vec![format!("in LcpHashAlgMask the bit {n:#06x} (SHA-256)."), format!("without whose bit {n:#06x} it refuses")]
+            vec![
+                format!("in LcpHashAlgMask the bit {n:#06x} (SHA-256)."),
+                format!("without whose bit {n:#06x} it permits no image (23)."),
+            ]
         },
     },
     // In the Rattle sources the bit has its number.

@@ -1,10 +1,12 @@
 // The answer of the check, which every crate that gives one or shows one has in common.
+#![tactic(auto)]
+
 ghost use Rattle.std.specs.Prelude.{◌≡◌};
 ghost use Rattle.answer.specs.Answer as spec;
 
 // The number, how many pages were written, the list that permits, the offset of the first field at fault in the policy file on 27, else 0, and the
 // digest of the pages.
-#[derive(Drop)]
+#[derive(Clone, Copy)]
 pub struct Answer {
     pub number: u32,
     pub pages: u32,

@@ -26,14 +26,14 @@ pub const PLACES: usize = 4096;
 pub const OUTPUT: usize = FIRST_LINE + PAGE_LINE * PLACES;
 
 // A line of text: the first `len` bytes of the array. What is behind them is free.
-#[derive(Drop)]
+#[derive(Clone, Copy)]
 struct Line {
     bytes: [u8; FIRST_LINE],
     len: usize,
 }
 
 // The digits of a number: the bytes of the array from `start` on. What is before them is free.
-#[derive(Drop)]
+#[derive(Clone, Copy)]
 struct Digits {
     bytes: [u8; 10],
     start: usize,

@@ -113,7 +113,7 @@ fn lengths_at(s: &[u8]) -> usize
 }
 
 // Where the parts begin, and where the last ends.
-#[derive(Drop)]
+#[derive(Clone, Copy)]
 pub struct Offsets {
     pub window: usize,
     pub heap: usize,

@@ -5,7 +5,7 @@ ghost use Rattle.heap.specs.Heap.{size_fits, fields_of, version_known, elements_
 use range::Range;
 
 // The fields of OsSinitData, in its order.
-#[derive(Drop)]
+#[derive(Clone, Copy)]
 pub struct OsSinitData {
     pub version: u64,
     pub flags: u64,
@@ -23,7 +23,7 @@ pub struct OsSinitData {
 }
 
 // The fields of OsSinitData, or the number of the rule that refuses the heap.
-#[derive(Drop)]
+#[derive(Clone, Copy)]
 pub enum HeapAnswer {
     OsSinit(OsSinitData),
     Refused(u32),

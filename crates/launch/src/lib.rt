@@ -23,14 +23,14 @@ pub const MOST_RESERVED: u32 = 16;
 pub const RESERVED_NUMBERS: usize = 32;
 
 // The ranges that the platform reserves, the base and the size of each in turn. Those past the count are ignored.
-#[derive(Drop)]
+#[derive(Clone, Copy)]
 pub struct ReservedRanges {
     pub count: u32,
     pub numbers: [u64; RESERVED_NUMBERS],
 }
 
 // The numbers of the platform.
-#[derive(Drop)]
+#[derive(Clone, Copy)]
 pub struct Platform {
     pub window_base: u64,
     pub heap_base: u64,
@@ -46,7 +46,7 @@ pub struct Platform {
 
 // What the launch finds and the policy is asked about: the pages of the MLE, where the window begins, where the policy file stands, and the flags
 // and AcmVersion of the module.
-#[derive(Drop)]
+#[derive(Clone, Copy)]
 pub struct Found {
     pub image: Image,
     pub window_base: u64,
@@ -56,14 +56,14 @@ pub struct Found {
 }
 
 // What the launch finds where rules 1 to 22 hold, or the number of the first that fails.
-#[derive(Drop)]
+#[derive(Clone, Copy)]
 pub enum FindAnswer {
     Complete(Found),
     Refused(u32),
 }
 
 // The answer, where the pages of the MLE are found, none on a refusal, and the digest of the pages where it is shown, on a permission and on 29.
-#[derive(Drop)]
+#[derive(Clone, Copy)]
 pub struct Outcome {
     pub answer: Answer,
     pub image: Image,

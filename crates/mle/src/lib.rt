@@ -6,7 +6,7 @@ pub use header::{header_holds, size_holds};
 pub use linear::{digest, write_pages};
 
 // Where the pages of the MLE are found: where the window begins, the table base, the first linear page, and how many pages there are.
-#[derive(Drop)]
+#[derive(Clone, Copy)]
 pub struct Image {
     pub window: u64,
     pub tables: u64,

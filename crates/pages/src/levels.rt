@@ -20,7 +20,7 @@ const DIRECTORIES: u64 = POINTERS * ENTRIES;
 
 // What is kept of what was found so far: the last address, how many tables, the first linear page, how many pages, and the range from the first page
 // to the last. Addresses rise and a region is one range, so a region holds every page where it holds that range.
-#[derive(Drop)]
+#[derive(Clone, Copy)]
 pub struct Progress {
     pub last: u64,
     pub tables: u64,
@@ -30,7 +30,7 @@ pub struct Progress {
 }
 
 // The number of the rule that failed, 0 so far, and what was found before it.
-#[derive(Drop)]
+#[derive(Clone, Copy)]
 pub struct Run {
     pub number: u32,
     pub progress: Progress,

@@ -10,7 +10,7 @@ use range::Range;
 pub use tables::page;
 
 // Where an entry stands: in the pointer table, in a directory or in a page table.
-#[derive(Drop)]
+#[derive(Clone, Copy)]
 pub enum Kind {
     Pointer,
     Directory,
@@ -18,7 +18,7 @@ pub enum Kind {
 }
 
 // Where the window begins, and the ranges of memory that the rules name, but for those that the platform reserves: these are lent beside it, as numbers.
-#[derive(Drop)]
+#[derive(Clone, Copy)]
 pub struct MemoryRanges {
     pub window: u64,
     pub heap: Range,
@@ -29,7 +29,7 @@ pub struct MemoryRanges {
 }
 
 // The first linear page and how many pages follow one another from it, or the number of the rule that refuses the tables.
-#[derive(Drop)]
+#[derive(Clone, Copy)]
 pub enum WalkAnswer {
     Mapped { first: u32, count: u32 },
     Refused(u32),

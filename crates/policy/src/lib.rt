@@ -12,7 +12,7 @@ ghost use Rattle.policy.specs.Demand3.{Answered};
 pub use numbered::{element, key, list, signature};
 
 // All that the reader answers for a list number and an element number.
-#[derive(Drop)]
+#[derive(Clone, Copy)]
 pub struct Answers {
     pub file: FileAnswer,
     pub list: ListAnswer,

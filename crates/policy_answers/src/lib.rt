@@ -21,7 +21,7 @@ pub const STM_DIGESTS: usize = 4;
 
 // What a string is: accepted, with the number of its lists, or refused, where it is not of the grammar with the offset of the first field at fault.
 // `number_of` of specs/Seen.antt gives each its number: 0, 26, 27.
-#[derive(Drop)]
+#[derive(Clone, Copy)]
 pub enum FileAnswer {
     Accepted { lists: usize },
     WrongSize,
@@ -30,7 +30,7 @@ pub enum FileAnswer {
 
 // A list: the offset of its first byte and how many bytes it has, its numbers, and the offsets of its elements, its key and its signature;
 // or that there is none.
-#[derive(Drop)]
+#[derive(Clone, Copy)]
 pub enum ListAnswer {
     Unsigned {
         start: usize,
@@ -54,14 +54,14 @@ pub enum ListAnswer {
 }
 
 // A part of the file: the offset of its first byte and how many bytes it has; or that there is none.
-#[derive(Drop)]
+#[derive(Clone, Copy)]
 pub enum PartAnswer {
     At { start: usize, len: usize },
     Absent,
 }
 
 // An element: the offset of its first byte, its size and its numbers; or that there is none. The body follows the first 12 bytes.
-#[derive(Drop)]
+#[derive(Clone, Copy)]
 pub enum ElementAnswer {
     Launch {
         start: usize,

@@ -38,7 +38,7 @@ pub const LARGEST_FILE: usize = 65536;
 pub const MOST_LISTS: usize = 8;
 
 // What is read at the front of a string: how many bytes it takes, or the offset of its first fault.
-#[derive(Drop)]
+#[derive(Clone, Copy)]
 pub(crate) enum Extent {
     Size(usize),
     Fault(usize),

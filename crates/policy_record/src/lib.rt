@@ -7,7 +7,7 @@ ghost use Rattle.policy_record.specs.Answers.{record_of};
 use field::number_or_zero;
 
 // The kind of policy of a record for which rules 23 to 25 hold, or the number of the rule that refuses it.
-#[derive(Drop)]
+#[derive(Clone, Copy)]
 pub enum RecordAnswer {
     Any,
     List,

@@ -16,7 +16,7 @@ ghost use Rattle.policy_writer.specs.Answers as spec;
 ghost use Rattle.policy_writer.specs.Answers.{answer_for, buffer_for};
 
 // What was written: 0, the length of the file and the policy record; or a refusal, with no length and a record of zeros.
-#[derive(Drop)]
+#[derive(Clone, Copy)]
 pub struct Written {
     pub number: u32,
     pub length: usize,
@@ -24,7 +24,7 @@ pub struct Written {
 }
 
 // Where a walk through a description stands: how many numbers and how many bytes of bodies are behind it, and how many bytes of the file.
-#[derive(Drop)]
+#[derive(Clone, Copy)]
 pub(crate) struct Cursor {
     pub(crate) numbers: usize,
     pub(crate) bodies: usize,
@@ -32,7 +32,7 @@ pub(crate) struct Cursor {
 }
 
 // Where a walk goes on behind a part, or that nothing is described.
-#[derive(Drop)]
+#[derive(Clone, Copy)]
 pub(crate) enum Next {
     Nothing,
     At(Cursor),

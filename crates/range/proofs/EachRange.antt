@@ -42,11 +42,11 @@ module _ (test : Range → Bool) (s : List ℕ) where
       here : every test (ranges_of s) ≡ (met && every test (ranges_of (drop (i + 2) s)))
       here = sym left.same ∙ rw (ranges_from s i more, is-test)
 
-      pub fails : not met ≡ true → false ≡ every test (ranges_of s)
-      fails h = rw (here, not-true met h)
+      pub fails : met ≡ false → false ≡ every test (ranges_of s)
+      fails h = rw (here, h)
 
-      pub onward : not met ≡ false → Left (i + 2)
-      onward h = record { within = omega arith; same = rw (here, not-false met h) }
+      pub onward : met ≡ true → Left (i + 2)
+      onward h = record { within = omega arith; same = rw (here, h) }
 
     pub ended : length s - i < 2 → true ≡ every test (ranges_of s)
     ended h = rw (← left.same, no_range (drop i s) (omega (arith, length-drop i s)))

@@ -1,4 +1,6 @@
 // Ranges of physical memory.
+#![tactic(auto)]
+
 mod pairs;
 
 ghost use Rattle.std.specs.Prelude.{◌≡◌};
@@ -13,7 +15,7 @@ pub const PAGE_SIZE: u64 = 4096;
 pub const HIGHEST_END: u64 = 0x10_0000_0000_0000;
 
 // `size` bytes from `base` on.
-#[derive(Drop)]
+#[derive(Clone, Copy)]
 pub struct Range {
     pub base: u64,
     pub size: u64,

@@ -6,7 +6,7 @@ ghost use Rattle.range.specs.Pairs.{ranges_of, meets_of};
 use crate::{Range, clear, ends_by};
 
 // What is asked of a range: that it has no byte in common with another, or that it ends at or below a limit.
-#[derive(Drop)]
+#[derive(Clone, Copy)]
 pub enum Condition {
     ClearOf(Range),
     EndsBy(u64),

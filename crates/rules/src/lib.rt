@@ -1,4 +1,6 @@
 // Rules in the order they are tried: the number of the first that fails.
+#![tactic(auto)]
+
 ghost use Rattle.std.specs.Prelude.{◌≡◌, cond};
 
 // The number of a rule that fails, or what the later rules give where it holds.

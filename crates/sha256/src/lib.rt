@@ -1,7 +1,9 @@
 // SHA-256 (FIPS 180-4): of a slice, or of a message that comes in parts.
+#![tactic(auto)]
+
 mod number;
 
-ghost use Rattle.std.specs.Prelude.{◌≡◌, ◌%◌, ◌≤◌, ◌++◌, length, take, replicate};
+ghost use Rattle.std.specs.Prelude.{◌≡◌, ◌%◌, ◌≤◌, ◌++◌, length, take, replicate, drop};
 ghost use Rattle.sha256_block.specs.Block.{hash_blocks};
 ghost use Rattle.sha256.specs.Message.{padding, digest_of, sha256};
 ghost use Rattle.sha256.specs.State.{started, Absorbed, finish_of};
@@ -14,7 +16,7 @@ const H0: [u32; 8] = [
 ];
 
 // A digest of which a part was worked out. Every value is a state.
-#[derive(Drop)]
+#[derive(Clone, Copy)]
 pub struct Running {
     pub words: [u32; 8],
     // The bytes that wait stand at its front, as many as `total` says modulo 64.
@@ -34,6 +36,14 @@ pub fn start() -> Running
     }
 }
 
+// Writes the bytes of a string to the front of another that is as long or longer.
+fn copy(s: &[u8], t: &mut [u8])
+    requires { length s.now ≤ length t.old }
+    ensures { t.new ≡ take (length s.now) s.now ++ drop (length s.now) t.old }
+{
+    t[..s.len()].copy_from_slice(s);
+}
+
 // The state after one part more of the message. The block is filled in place; once it is full it is hashed, and then holds the rest
 // of the part.
 pub fn absorb(s: Running, part: &[u8]) -> Running
@@ -45,19 +55,19 @@ pub fn absorb(s: Running, part: &[u8]) -> Running
     let mut block = s.block;
     let words = s.words;
     if part.len() < room {
-        bytes::copy(part, &mut block[fill..]);
+        copy(part, &mut block[fill..]);
         return Running {
             words: words,
             block: block,
             total: total,
         };
     }
-    bytes::copy(&part[..room], &mut block[fill..]);
+    copy(&part[..room], &mut block[fill..]);
     let first = hash_blocks(words, &block);
     let behind = &part[room..];
     let all = hash_blocks(first, behind);
     let at = behind.len() / 64 * 64;
-    bytes::copy(&behind[at..], &mut block);
+    copy(&behind[at..], &mut block);
     Running {
         words: all,
         block: block,
@@ -73,7 +83,7 @@ fn pad(p: &mut [u8], rest: &[u8], total: u64) -> usize
 {
     let fill = rest.len();
     let at = fill + 1 + (119 - fill) % 64;
-    bytes::copy(rest, p);
+    copy(rest, p);
     p[fill] = 0x80;
     number::put(p, at, total << 3);
     at + 8

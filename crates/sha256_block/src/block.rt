@@ -10,7 +10,7 @@ use crate::constants::constants;
 use crate::word::{add, big_sigma0, big_sigma1, ch, joined, maj, small_sigma0, small_sigma1};
 
 // The eight working variables.
-#[derive(Drop)]
+#[derive(Clone, Copy)]
 pub struct Working {
     pub a: u32,
     pub b: u32,
@@ -23,7 +23,7 @@ pub struct Working {
 }
 
 // Sixteen words one behind the other, of the schedule or of the constants.
-#[derive(Drop)]
+#[derive(Clone, Copy)]
 pub struct Sixteen {
     pub w0: u32,
     pub w1: u32,

@@ -1,4 +1,6 @@
 // The hash computation of SHA-256 over whole blocks (FIPS 180-4, section 6.2.2).
+#![tactic(auto)]
+
 mod block;
 mod constants;
 mod word;

@@ -23,7 +23,7 @@ const DESCRIPTOR_SIZE: u64 = 8;
 const SECOND_END: u64 = 15;
 
 // An edition of the header: its version, its HeaderLen and KeySize in words of 4 bytes, and the least length of a module.
-#[derive(Drop)]
+#[derive(Clone, Copy)]
 pub struct Edition {
     pub version: u64,
     pub header_len: u64,

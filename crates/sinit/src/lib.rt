@@ -10,7 +10,7 @@ use header::{entry_holds, gdt_holds, header_holds, place_holds, selector_holds};
 use table::{table_fault, values};
 
 // What the platform says of its chipset.
-#[derive(Drop)]
+#[derive(Clone, Copy)]
 pub struct Chipset {
     pub vendor: u16,
     pub device: u16,
@@ -18,7 +18,7 @@ pub struct Chipset {
 }
 
 // The flags of the header, and numbers of the information table.
-#[derive(Drop)]
+#[derive(Clone, Copy)]
 pub struct ModuleData {
     pub flags: u64,
     pub os_sinit_data_ver: u64,
@@ -27,7 +27,7 @@ pub struct ModuleData {
 }
 
 // The values of a module for which all rules hold, or the number of the first rule that fails.
-#[derive(Drop)]
+#[derive(Clone, Copy)]
 pub enum ModuleAnswer {
     Module(ModuleData),
     Refused(u32),

@@ -1,0 +1,12 @@
+use Rattle.std.proofs.Common.{◌≡◌, ◌-◌, ◌≤◌, length, replicate, sym, refl, ◌∙◌, zero-add, arith, length-set, rules}
+use lib.Seq.{paste, paste-zero}
+use Rattle.sha256.specs.Message.{digest_of}
+use Rattle.sha256.proofs.Fill.{fill_step, fill_end}
+use Rattle.sha256.proofs.BigEndian.{length_digest, get_d_digest}
+use Rattle.sha256.proofs.digest_bytes.Given as goal
+
+abbrev pub invariant-loop-i : goal.invariant-loop-i
+invariant-loop-i l = (l.i ≤ 32) × (length l.h ≡ 8) × (length l.d ≡ 32) × (l.d ≡ paste (replicate 32 0) 0 (digest_of l.h) l.i)
+
+abbrev pub decreases-loop-i : goal.decreases-loop-i
+decreases-loop-i l = 32 - l.i

@@ -1,0 +1,12 @@
+use Rattle.std.proofs.Common.{◌≡◌, ◌-◌, ◌≤◌, length, sym, refl, ap, ◌∙◌, arith, length-set, rules}
+use lib.Seq.{paste, paste-zero}
+use Rattle.sha256.specs.Message.{big_endian}
+use Rattle.sha256.proofs.Fill.{fill_step}
+use Rattle.sha256.proofs.BigEndian.{length_big, get_d_big}
+use Rattle.sha256.proofs.number.put.Given as goal
+
+abbrev pub invariant-loop-k : goal.invariant-loop-k
+invariant-loop-k l = (l.k ≤ 8) × (length l.b ≡ length l.initial.b) × (l.b ≡ paste l.initial.b l.at (big_endian 8 l.x) l.k)
+
+abbrev pub decreases-loop-k : goal.decreases-loop-k
+decreases-loop-k l = 8 - l.k

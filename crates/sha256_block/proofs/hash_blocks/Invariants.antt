@@ -1,0 +1,10 @@
+use Rattle.std.proofs.Common.{◌≡◌, ℕ, ◌+◌, ◌-◌, ◌*◌, ◌/◌, ◌≤◌, List, length, drop, sym, refl, ap, ◌∙◌, arith}
+use Rattle.sha256_block.specs.Block.{hash}
+use Rattle.sha256_block.proofs.Blocks.{none_yet, one_block, all_done}
+use Rattle.sha256_block.proofs.hash_blocks.Given as goal
+
+abbrev pub invariant-loop-k : goal.invariant-loop-k
+invariant-loop-k l = (l.k ≤ l.n) × (l.n ≡ length l.s / 64) × (hash (l.n - l.k) l.words (drop (64 * l.k) l.s) ≡ hash l.n l.initial.words l.s)
+
+abbrev pub decreases-loop-k : goal.decreases-loop-k
+decreases-loop-k l = l.n - l.k

@@ -1,4 +1,6 @@
 // The TXT heap: its three parts, the fields of OsSinitData, its elements and its protected memory regions (PMR). Rules 2 to 5.
+#![tactic(auto)]
+
 ghost use Rattle.std.specs.Prelude.{◌≡◌};
 ghost use Rattle.heap.specs.Heap.{size_fits, fields_of, version_known, elements_end, low_placed, high_placed, pmrs_placed, part_answer, heap_of};
 

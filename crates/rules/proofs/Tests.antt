@@ -21,11 +21,11 @@ agrees true e where-true where-false = holds e (where-true refl)
 agrees false e where-true where-false = fails e (where-false refl)
 
 -- what the answer of a test says of a condition that it equals
-pub confirmed : (r : Bool) {t : Bool} → r ≡ t → not r ≡ false → t ≡ true
-confirmed r e h = sym e ∙ not-false r h
+pub confirmed : (r : Bool) {t : Bool} → r ≡ t → r ≡ true → t ≡ true
+confirmed r e h = sym e ∙ h
 
-pub refuted : (r : Bool) {t : Bool} → r ≡ t → not r ≡ true → t ≡ true → ⊥
-refuted r e h f = true≢false (sym f ∙ sym e ∙ not-true r h)
+pub refuted : (r : Bool) {t : Bool} → r ≡ t → r ≡ false → t ≡ true → ⊥
+refuted r e h f = true≢false (sym f ∙ sym e ∙ h)
 
 -- TESTS OF NUMBERS, AND TESTS THAT ARE JOINED
 
@@ -81,11 +81,11 @@ where_holds false b p q = (λ e h. absurd (true≢false (sym (p.1 h))), λ h. re
 
 -- RULES THAT THE CODE TRIES IN ORDER: one that fails gives its number, one that holds leaves the number to the later ones
 
-pub stop : (r t : Bool) (later n : ℕ) → r ≡ t → not r ≡ true → n ≡ cond t later n
-stop r t later n e f = rw (← e, not-true r f)
+pub stop : (r t : Bool) (later n : ℕ) → r ≡ t → r ≡ false → n ≡ cond t later n
+stop r t later n e f = rw (← e, f)
 
-pub pass : (r t : Bool) (k later n : ℕ) → r ≡ t → not r ≡ false → k ≡ later → k ≡ cond t later n
-pass r t k later n e f h = rw (← e, not-false r f, h)
+pub pass : (r t : Bool) (k later n : ℕ) → r ≡ t → r ≡ true → k ≡ later → k ≡ cond t later n
+pass r t k later n e f h = rw (← e, f, h)
 
 -- SEVERAL TESTS. Facts side by side, the last of them `tt`
 infixr 20 ◌&◌

@@ -1,4 +1,6 @@
 // The SINIT module: the number of the first of rules 6 to 11 that fails, or the values of the module that later rules read.
+#![tactic(auto)]
+
 mod header;
 mod table;
 

@@ -8,8 +8,7 @@ use lib.Dec.{leb}
 use Rattle.range.proofs.Ranges.{leb_is}
 use Rattle.heap.specs.Heap.{size_fits}
 use Rattle.heap.proofs.Sizes.{fits_exactly}
-use Rattle.heap.proofs.size_fits.Statement.{statement}
-use Rattle.heap.proofs.size_fits.Tie as tie
+use Rattle.heap.proofs.size_fits.Goals as goal
 
 compared : (at size end : ℕ) → at ≤ end → 8 ≤ size → leb size (end - at) ≡ size_fits at size end
 compared at size end p q =
@@ -17,15 +16,12 @@ compared at size end p q =
     (λ h. (fits_exactly at size end).1 (q, omega arith))
     (λ h. not-eq-not.0 (λ e. omega (arith, (fits_exactly at size end).0 e)))
 
-returns : tie.Need-returns
-returns c = sym (not-eq-not.0 (λ e. omega (arith, (fits_exactly _ _ _).0 e)))
+pub returns-then-end-at : goal.returns-then-end-at
+returns-then-end-at c = sym (not-eq-not.0 (λ e. omega (arith, (fits_exactly _ _ _).0 e)))
 
-returns-2 : tie.Need-returns-2
-returns-2 c = compared _ _ _ (omega arith) (omega arith)
+pub returns-then-size-ge-LEAST_SIZE : goal.returns-then-size-ge-LEAST_SIZE
+returns-then-size-ge-LEAST_SIZE c = compared _ _ _ (omega arith) (omega arith)
 
-returns-3 : tie.Need-returns-3
+pub returns-else-size-ge-LEAST_SIZE : goal.returns-else-size-ge-LEAST_SIZE
 unfolding size_fits
-returns-3 c = rw (lt-leb _ _ c.if2.false)
-
-pub size-fits-spec : {M : Type 1} → statement M
-size-fits-spec = tie.close (tie.spec returns returns-2 returns-3)
+returns-else-size-ge-LEAST_SIZE c = rw (lt-leb _ _ c.if-size-ge-LEAST_SIZE.false)

@@ -1,0 +1,17 @@
+use Prim.Native.Nat.{ℕ, ◌-◌, ◌≤◌, ◌<◌}
+use mathlib.Core.Path.{sym, ◌∙◌}
+use mathlib.Core.Bool.{true≢false}
+use native.Mathlib.Omega.{arith}
+use borrow.Author.Count.{below_more}
+use borrow.Author.Rules.{rules}
+use Rattle.sinit.specs.Module.{entry_at}
+use Rattle.sinit.specs.Meaning.{Matches}
+use Rattle.sinit.proofs.Conditions.{match_exactly, listed_exactly}
+use Rattle.rules.proofs.Tests.{fails, holds}
+use Rattle.sinit.proofs.table.chipset_listed.Given as goal
+
+abbrev pub invariant-loop-i : goal.invariant-loop-i
+invariant-loop-i l = (l.i ≤ l.count) × ((k : ℕ) → k < l.i → Matches l.acm l.chipset (entry_at l.acm k) → ⊥)
+
+abbrev pub decreases-loop-i : goal.decreases-loop-i
+decreases-loop-i l = l.count - l.i

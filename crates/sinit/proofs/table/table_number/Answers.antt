@@ -1,0 +1,6 @@
+-- `table_number` meets its contract: the table begins at E.
+use borrow.Author.Rules.{rules}
+use Rattle.sinit.proofs.table.table_number.Goals as goal
+
+pub returns : goal.returns
+returns c = (rw c.header_end-start.ensures.0 at c.number_or_zero.ensures.0, c.number_or_zero.ensures.1)

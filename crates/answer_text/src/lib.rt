@@ -1,6 +1,8 @@
 // The text of the answer: the first line, the line of a page, and the whole output in a buffer that the caller lends.
 //
 // A line is written into an array by pieces, each behind the one before.
+#![tactic(auto)]
+
 ghost use Rattle.std.specs.Prelude.{◌≡◌, [], ◌++◌, ◌+◌, ◌*◌, ◌<◌, ◌≤◌, length, take, drop};
 ghost use Rattle.std.proofs.Math.Seq.{paste};
 ghost use Rattle.answer_text.specs.Text.{output as Text·output, written, refused_line, first_line, page_line, page_lines, shown_pages, output_length, output_in, AtFront};

@@ -2,7 +2,7 @@
 use Prim.Native.Nat.{ℕ, ◌+◌, ◌*◌, ◌-◌, ◌≤◌, ◌<◌}
 use mathlib.Core.Path.{◌≡◌, refl, ap, sym, ◌∙◌}
 use mathlib.Core.Logic.{◌↔◌, ◌⊎◌}
-use mathlib.Core.Bool.{Bool, true, false, ◌&&◌, ◌||◌, and-true, or_false}
+use mathlib.Core.Bool.{Bool, true, false, ◌&&◌, ◌||◌, and-true, or-false}
 use mathlib.Core.List.{List}
 use native.Mathlib.Omega.{arith}
 use borrow.Author.Tests.{lt-ltb, le-ltb, eq-eqb, ne_eqb, eqb-true, eqb-false}
@@ -31,7 +31,7 @@ abbrev pub by_every : Joined
 by_every = record { join = ◌&&◌; stop = false; pass = true; decides = λ t. refl; leaves = λ t. refl; ends = and-true }
 
 abbrev pub by_some : Joined
-by_some = record { join = ◌||◌; stop = true; pass = false; decides = λ t. refl; leaves = λ t. refl; ends = or_false }
+by_some = record { join = ◌||◌; stop = true; pass = false; decides = λ t. refl; leaves = λ t. refl; ends = or-false }
 
 module _ (j : Joined) (r t : Bool) (e : r ≡ t) where
   pub decided : (later : Bool) → r ≡ j.stop → r ≡ j.join t later

@@ -1,4 +1,6 @@
 // The page tables: entries of three kinds, the walk over all of them in breadth-first order (rules 14 to 20), and the entry of a linear page.
+#![tactic(auto)]
+
 mod entry;
 mod levels;
 mod placement;

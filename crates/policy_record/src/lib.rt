@@ -1,4 +1,6 @@
 // The policy record: rules 23 to 25, the kind of policy, and the revocation counters.
+#![tactic(auto)]
+
 ghost use Rattle.std.specs.Prelude.{◌≡◌};
 ghost use Rattle.rules.specs.Rules.{all, first_failing};
 ghost use Rattle.policy_record.specs.Record.{policy_type, revocation_counter, lcp_hash_alg_mask, sha256_bit, bit, record_tests, worthy_or_allowed, version_reached, record_rules};

@@ -1,0 +1,18 @@
+-- `output_in` meets its contract: the first line and those of the pages, where the buffer has room for both.
+use native.Mathlib.Omega.{arith}
+use Rattle.answer_text.proofs.Written.{no_room, put_both}
+use borrow.Author.Rules.{rules}
+use Rattle.answer_text.proofs.output_in.Goals as goal
+
+pub returns-then-out-len : goal.returns-then-out-len
+returns-then-out-len c =
+    no_room _ _ _ _ c.shown-n.ensures.0 c.shown-n.ensures.1 _ _ c.first_line-line.ensures.0 c.line_length-len.ensures (omega arith)
+
+pub returns-then-out-len-2 : goal.returns-then-out-len-2
+returns-then-out-len-2 c =
+    no_room _ _ _ _ c.shown-n.ensures.0 c.shown-n.ensures.1 _ _ c.first_line-line.ensures.0 c.line_length-len.ensures (omega arith)
+
+pub returns : goal.returns
+returns c =
+    put_both _ _ _ _ c.shown-n.ensures.0 c.shown-n.ensures.1 _ _ c.first_line-line.ensures.0 c.line_length-len.ensures (omega arith) _ _
+    c.put_line.ensures c.put_pages.ensures

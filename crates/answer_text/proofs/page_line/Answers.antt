@@ -1,0 +1,24 @@
+-- `page_line` meets its contract. The loop's invariant: the digits that are left to put in, and what stands behind them, are the line.
+use Prim.Native.Nat.{◌≤◌}
+use mathlib.Core.Path.{◌≡◌, refl, ◌∙◌}
+use mathlib.Core.List.{◌++◌}
+use native.Mathlib.Omega.{arith}
+use lib.ListN.{length, drop, length-set}
+use Rattle.answer_text.specs.Text.{hex, page_line}
+use Rattle.answer_text.proofs.Lines.{hex_step}
+use borrow.Author.Rules.{rules}
+use Rattle.answer_text.proofs.page_line.Goals as goal
+
+pub loop-at-init : goal.loop-at-init
+unfolding page_line
+loop-at-init c = (omega arith, refl, refl)
+
+pub loop-at-preserved : goal.loop-at-preserved
+loop-at-preserved c =
+    (omega arith, simp length-set c.loop-at.invariant.1, hex_step c.loop-at.bytes c.loop-at.at c.loop-at.left _ (omega arith) (omega arith) c.hex_digit.ensures ∙ c.loop-at.invariant.2)
+
+pub returns : goal.returns
+unfolding hex
+returns c =
+    let z : c.loop-at.at ≡ 0 = omega arith in
+    rw z at c.loop-at.invariant.2

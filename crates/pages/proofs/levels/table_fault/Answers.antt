@@ -1,0 +1,6 @@
+-- `table_fault` meets its contract: the numbers of its rules, from the last to the first.
+use borrow.Author.Rules.{rules}
+use Rattle.pages.proofs.levels.table_fault.Goals as goal
+
+pub returns : goal.returns
+returns c reserved = simp (c.unless.ensures, c.unless-from20.ensures, c.is_table_protected.ensures reserved)

@@ -1,0 +1,8 @@
+-- `directory` meets its contract: quotient and remainder of the number give the pointer entry and the index.
+use Rattle.pages.specs.Tables.{directory_at}
+use borrow.Author.Rules.{rules}
+use Rattle.pages.proofs.tables.directory.Goals as goal
+
+pub returns : goal.returns
+unfolding directory_at
+returns c = simp (c.under.ensures, c.pointer.ensures)

@@ -1,0 +1,6 @@
+-- `revocation_counter` meets its contract: the number at the counter's offset.
+use borrow.Author.Rules.{rules}
+use Rattle.policy_record.proofs.revocation_counter.Goals as goal
+
+pub returns : goal.returns
+returns c = c.number_or_zero.ensures.0

@@ -1,4 +1,6 @@
 // RSASSA-PKCS1-v1_5 verification (RFC 8017, section 8.2.2) with the exponent 65537 and SHA-256, for keys of 256 and 384 bytes.
+#![tactic(auto)]
+
 mod message;
 mod montgomery;
 mod words;

@@ -1,4 +1,6 @@
 // The MLE in the window: its size (rule 12), its header (rule 22), the digest of its pages, and the page list.
+#![tactic(auto)]
+
 mod header;
 mod linear;
 

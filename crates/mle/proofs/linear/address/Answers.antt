@@ -1,0 +1,8 @@
+-- `address` meets its contract: it takes the address out of the page-table entry.
+use borrow.Author.Rules.{rules}
+use Rattle.mle.specs.Image.{address_at}
+use Rattle.mle.proofs.linear.address.Goals as goal
+
+pub returns : goal.returns
+unfolding address_at
+returns c = simp (c.address.ensures, c.page.ensures)

@@ -1,0 +1,16 @@
+use Prim.Native.Nat.{ℕ, ◌-◌, ◌≤◌}
+use mathlib.Core.Path.{◌≡◌, sym, ◌∙◌, ap}
+use mathlib.Core.List.{◌++◌}
+use native.Mathlib.Omega.{arith}
+use borrow.Author.Rules.{rules}
+use lib.ListN.{length, drop, length-set}
+use Rattle.mle.specs.Image.{addresses_from}
+use Rattle.mle.proofs.Pages.{addresses_nothing, addresses_set, page_list_written, page_list_short}
+use Rattle.mle.proofs.linear.write_pages.Given as goal
+
+abbrev pub invariant-loop-k : goal.invariant-loop-k
+invariant-loop-k l =
+    (l.k ≤ l.count) × (length l.pages ≡ length l.initial.pages) × (l.pages ≡ addresses_from l.w l.image l.image.first l.k ++ drop l.k l.initial.pages)
+
+abbrev pub decreases-loop-k : goal.decreases-loop-k
+decreases-loop-k l = l.count - l.k

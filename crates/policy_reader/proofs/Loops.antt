@@ -1,6 +1,6 @@
 -- A loop over what stands one after the other in a string, to the one that has a number. The answer at the offset, and its size, are those that the loop has
 -- in hand. The invariant: whatever stands there, so many have been passed.
-use Prim.Native.Nat.{ℕ, ◌+◌, ◌-◌, ◌≤◌, ◌<◌, ◌^◌}
+use Prim.Native.Nat.{ℕ, ◌+◌, ◌≤◌, ◌<◌, ◌^◌}
 use native.Mathlib.Omega.{arith}
 use mathlib.Core.Path.{◌≡◌, ap, sym, ◌∙◌}
 use mathlib.Core.Logic.{⊎_elim}

@@ -1,7 +1,7 @@
 -- What stands one after the other in a string and is answered by its offset: elements, and lists. Each law is said once for both.
 -- From an offset on stand all the values of a list, `drop at s ≡ flat_map make xs`: the first is read, the others follow it, and after the last nothing is read.
 -- An answer with a size other than 0 is of a value that was read, which ends within the string; where its size is 0 nothing is read.
-use Prim.Native.Nat.{ℕ, ◌+◌, ◌-◌, ◌≤◌, ◌<◌}
+use Prim.Native.Nat.{ℕ, ◌+◌, ◌≤◌, ◌<◌}
 use native.Mathlib.Omega.{arith}
 use mathlib.Core.Path.{◌≡◌, refl, ap, sym, ◌∙◌}
 use mathlib.Core.Bool.{Bool, true, false, cond}

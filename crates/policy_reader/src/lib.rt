@@ -3,6 +3,8 @@
 // No public function asks anything of its caller: any slice of any length, and any offset. To walk an accepted string once, take `list_at` from
 // FIRST_LIST on, each list after the one before it, and `element_at` in the string up to the end of a list's elements; the laws of such a loop are in
 // proofs/Walk.antt.
+#![tactic(auto)]
+
 mod at_offset;
 mod elements;
 mod extents;

@@ -1,0 +1,9 @@
+-- `list_at` meets its contract: past the string there is no list, and elsewhere it is the one at the front of what is left.
+use Rattle.policy_reader.proofs.Offsets.{list_past, list_front}
+use Rattle.policy_reader.proofs.at_offset.list_at.Goals as goal
+
+pub returns-then-s-at : goal.returns-then-s-at
+returns-then-s-at c = list_past _ _ c.type_inv.s c.if-s-at.true
+
+pub returns : goal.returns
+returns c = list_front _ _ c.type_inv.s _ c.first_list.ensures

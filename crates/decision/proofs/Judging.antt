@@ -2,7 +2,7 @@
 -- so far and the elements that are left; and what that says of the list.
 use Prim.Native.Nat.{ℕ}
 use mathlib.Core.Path.{◌≡◌, refl, ap, sym, ◌∙◌}
-use mathlib.Core.Bool.{Bool, true, false, not, ◌&&◌, ◌||◌, or-true, or_false}
+use mathlib.Core.Bool.{Bool, true, false, not, ◌&&◌, ◌||◌, or-true, or-false}
 use mathlib.Core.List.{List, []}
 use native.Mathlib.Omega.{arith}
 use borrow.Author.Tests.{lt-ltb, not-true, not-false}
@@ -27,7 +27,7 @@ pub record Judging (k : Criteria) (es : List Element) (found stm : Bool) (rest :
 -- a test of one more element, after what was found before
 reorder : (f n a : Bool) → (f || (n || a)) ≡ ((n || f) || a)
 reorder true n a = rw (or-true n)
-reorder false n a = rw (or_false n)
+reorder false n a = rw (or-false n)
 
 -- the first element of those that are left, by the answer for it
 module _ {Kept : List Element → Type 0} (t : List ℕ) (at : ℕ) (e : ElementAnswer) (front : Front kinds.element t at Kept e) where
@@ -42,7 +42,7 @@ module _ (k : Criteria) (es : List Element) where
   judging_start = record { same = refl; same_stm = refl }
 
   pub judging_end : (found stm : Bool) → Judging k es found stm [] → judgement_by found stm ≡ judgement_of k es
-  judging_end found stm h = rw (h.same, h.same_stm, or_false found, or_false stm)
+  judging_end found stm h = rw (h.same, h.same_stm, or-false found, or-false stm)
 
   -- one element, by the answers for it
   module _ (t : List ℕ) (at : ℕ) (found stm : Bool) (e : ElementAnswer) (front : Front kinds.element t at (Judging k es found stm) e) where

@@ -1,4 +1,6 @@
 // What the policy file decides: where it stands in the window, its hash and whether it is right (26 to 28), and the lowest list that permits (29).
+#![tactic(auto)]
+
 mod elements;
 mod measures;
 mod permits;

@@ -10,25 +10,11 @@ use Rattle.policy_record.specs.Record.{policy_hash}
 use Rattle.decision.specs.Lists.{hash_matches}
 use Rattle.field.proofs.Laws.{marked_same}
 use borrow.Author.Rules.{rules}
-use Rattle.decision.proofs.measures.hash_matches.Statement.{statement}
-use Rattle.decision.proofs.measures.hash_matches.Tie as tie
+use Rattle.decision.proofs.measures.hash_matches.Goals as goal
 
 compared : (t : Bool) (r h k : List ℕ) → t ≡ marked_at r 38 h → 32 ≡ length h → h ≡ k → t ≡ same k (policy_hash r)
 compared t r h k e l q = e ∙ marked_same r 38 h 32 (sym l) (lit< tt) ∙ rw q
 
-hash-requires : tie.Need-hash-requires
-hash-requires c κs = search rules
-
-slice-aggregate-marked : tie.Need-slice-aggregate-marked
-slice-aggregate-marked c = search rules
-
-marked-requires : tie.Need-marked-requires
-marked-requires c κs = search rules
-
-returns : tie.Need-returns
+pub returns : goal.returns
 unfolding hash_matches
-returns c = compared _ _ _ _ c.marked.ensures (slice-aggregate-marked c.before) c.before.before.hash.ensures
-
-pub hash-matches-spec : {M : Type 1} → statement M
-hash-matches-spec =
-    tie.close (tie.spec hash-requires slice-aggregate-marked marked-requires returns)
+returns c = compared _ _ _ _ c.marked.ensures ((search rules)) c.hash-h.ensures

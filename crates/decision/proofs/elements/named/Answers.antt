@@ -1,0 +1,18 @@
+-- `named` meets its contract. The invariant: the digest is one of all exactly where it is one of those that are left.
+use Prim.Native.Nat.{◌+◌, ◌*◌, ◌≤◌}
+use mathlib.Core.Path.{◌≡◌, refl}
+use Rattle.decision.proofs.Digests.{named_from, first_is, first_is_not, none_left}
+use borrow.Author.Rules.{rules}
+use Rattle.decision.proofs.elements.named.Goals as goal
+
+pub loop-left-init : goal.loop-left-init
+loop-left-init c = (search rules, search rules, refl)
+
+pub returns-then-marked : goal.returns-then-marked
+returns-then-marked c = search (rules, first_is)
+
+pub loop-left-preserved : goal.loop-left-preserved
+loop-left-preserved c = (search rules, search rules, search (rules, first_is_not))
+
+pub returns : goal.returns
+returns c = search (rules, none_left)

@@ -1,0 +1,14 @@
+-- `policy_hash` meets its contract: a file that the reader refuses has no lists.
+use Rattle.decision.proofs.Walking.{grammar_is}
+use Rattle.decision.proofs.Hashing.{hash_of_none}
+use borrow.Author.Rules.{rules}
+use Rattle.decision.proofs.measures.policy_hash.Goals as goal
+
+pub hash-requires : goal.hash-requires
+hash-requires c = grammar_is _ _ _ c.read.ensures.0 c.in-Accepted.is
+
+pub returns-in-WrongSize : goal.returns-in-WrongSize
+returns-in-WrongSize c = hash_of_none _ _ (grammar_is _ _ _ c.read.ensures.0 c.in-WrongSize.is) c.digest.ensures
+
+pub returns-in-NotOfGrammar : goal.returns-in-NotOfGrammar
+returns-in-NotOfGrammar c = hash_of_none _ _ (grammar_is _ _ _ c.read.ensures.0 c.in-NotOfGrammar.is) c.digest-in-NotOfGrammar.ensures

@@ -1,0 +1,21 @@
+use Prim.Native.Nat.{◌-◌, ◌≤◌}
+use mathlib.Core.Bool.{true≢false}
+use mathlib.Core.Path.{sym}
+use native.Mathlib.Omega.{arith}
+use lib.ListN.{length}
+use Rattle.policy_reader.proofs.Standing as kinds
+use Rattle.policy_reader.proofs.Walk.{Left, front, onward, ended}
+use Rattle.decision.specs.Lists.{lists_of, lowest_permitting}
+use Rattle.decision.specs.Answers.{criteria_of}
+use Rattle.decision.specs.Inner.{Known}
+use Rattle.decision.proofs.Walking.{starts, short}
+use Rattle.decision.proofs.Lowest.{Lowest, list_stands, lowest_start, lowest_end, this_permits, this_does_not}
+use borrow.Author.Rules.{rules}
+use Rattle.decision.proofs.permits.lowest_in.Given as goal
+
+abbrev pub invariant-loop-at : goal.invariant-loop-at
+invariant-loop-at l =
+    (l.i ≤ l.at) × Left kinds.list l.file l.at (Lowest (criteria_of l.k l.stm l.record) (lists_of l.file) l.i) × Known l.stm l.known
+
+abbrev pub decreases-loop-at : goal.decreases-loop-at
+decreases-loop-at l = length l.file - l.at

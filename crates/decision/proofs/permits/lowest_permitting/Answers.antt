@@ -1,0 +1,14 @@
+-- `lowest_permitting` meets its contract: a file that the reader refuses has no lists, and those of one that it accepts are tried in turn.
+use Rattle.decision.proofs.Walking.{grammar_is}
+use Rattle.decision.proofs.Lowest.{none_permits}
+use borrow.Author.Rules.{rules}
+use Rattle.decision.proofs.permits.lowest_permitting.Goals as goal
+
+pub lowest_in-requires : goal.lowest_in-requires
+lowest_in-requires c = grammar_is _ _ _ c.read.ensures.0 c.in-Accepted.is
+
+pub returns-in-WrongSize : goal.returns-in-WrongSize
+returns-in-WrongSize c = none_permits _ _ (grammar_is _ _ _ c.read.ensures.0 c.in-WrongSize.is)
+
+pub returns-in-NotOfGrammar : goal.returns-in-NotOfGrammar
+returns-in-NotOfGrammar c = none_permits _ _ (grammar_is _ _ _ c.read.ensures.0 c.in-NotOfGrammar.is)

@@ -2,6 +2,8 @@
 //
 // Two stages in turn: what the launch finds (rules 1 to 22), and what the policy decides (rules 23 to 29). The first rule that fails gives the
 // number. Only the last step writes the page list.
+#![tactic(auto)]
+
 mod decide;
 mod find;
 

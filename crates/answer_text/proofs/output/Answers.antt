@@ -4,10 +4,8 @@ use Rattle.answer_text.proofs.Room.{lent_length, lent_text}
 use Rattle.answer_text.proofs.output.Goals as goal
 
 pub returns : goal.returns
-returns c = (
-  lent_length _ _ c.args.out.now (search rules) (search rules) _ c.output_in.ensures.length,
-  (
-    lent_text _ _ c.args.out.now (search rules) (search rules) _ c.output_in.ensures.text.0,
-    c.output_in.ensures.text.1,
-  ),
-)
+returns c = record {
+  length = lent_length _ _ c.args.out.now (search rules) (search rules) _ c.output_in.ensures.length;
+  text = lent_text _ _ c.args.out.now (search rules) (search rules) _ c.output_in.ensures.text;
+  front = c.output_in.ensures.front;
+}

@@ -66,23 +66,23 @@ module _ (s : List ℕ) (o : Offsets) (p : Platform) (n : ℕ) where
 
 -- the answer and the page list of a string that is no capture, and of one that is
 module _ (s : List ℕ) (t : Bool) (is-test : t ≡ all (capture_tests s)) where
-  pub no_capture : not t ≡ true → (n : ℕ) (places : List ℕ) → (refused not_capture 0 ≡ capture_answer s n) × (places ≡ capture_places s places)
+  pub no_capture : t ≡ false → (n : ℕ) (places : List ℕ) → (refused not_capture 0 ≡ capture_answer s n) × (places ≡ capture_places s places)
   unfolding capture_answer capture_places
-  no_capture h n places = rw (← is-test, not-true t h) (refl, refl)
+  no_capture h n places = rw (← is-test, h) (refl, refl)
 
-  pub a_capture : not t ≡ false → (o : Offsets) (p : Platform) → o ≡ offsets_from s (lengths_at s) → p ≡ platform_with s (reserved_of s) → (places : List ℕ) (r : Answer) (later : List ℕ)
+  pub a_capture : t ≡ true → (o : Offsets) (p : Platform) → o ≡ offsets_from s (lengths_at s) → p ≡ platform_with s (reserved_of s) → (places : List ℕ) (r : Answer) (later : List ℕ)
       → r ≡ answer_of (lent s o p (length places)) → later ≡ places_of (lent s o p (length places)) places
       → (r ≡ capture_answer s (length places)) × (later ≡ capture_places s places)
   unfolding capture_answer capture_places
   a_capture h o p e f places r later x y =
       let l = parts s o p (length places) e f in
-      rw (← is-test, not-false t h) (x ∙ ap answer_of l, y ∙ ap (λ (i : Input). places_of i places) l)
+      rw (← is-test, h) (x ∙ ap answer_of l, y ∙ ap (λ (i : Input). places_of i places) l)
 
-  pub counted : not t ≡ false → range_count s ≤ most_reserved
-  counted h = ((capture_exactly s).0 (sym is-test ∙ not-false t h)).counted
+  pub counted : t ≡ true → range_count s ≤ most_reserved
+  counted h = ((capture_exactly s).0 (sym is-test ∙ h)).counted
 
-  pub whole : not t ≡ false → (o : Offsets) → o ≡ offsets_from s (lengths_at s) → o.end ≡ length s
-  whole h o e = ap (λ (x : Offsets). x.end) e ∙ ((capture_exactly s).0 (sym is-test ∙ not-false t h)).whole
+  pub whole : t ≡ true → (o : Offsets) → o ≡ offsets_from s (lengths_at s) → o.end ≡ length s
+  whole h o e = ap (λ (x : Offsets). x.end) e ∙ ((capture_exactly s).0 (sym is-test ∙ h)).whole
 
 -- with version 1 there is no range, and the lengths follow the chipset revision
 pub version_one : VersionOne

@@ -1,4 +1,6 @@
 // Capture files: all that the check is handed over, in one string, and the answer for it.
+#![tactic(auto)]
+
 ghost use Rattle.std.specs.Prelude.{◌≡◌, ◌<◌, ◌≤◌, ◌^◌, length};
 ghost use Rattle.rules.specs.Rules.{all};
 ghost use Rattle.field.specs.Field.{number_at};

@@ -20,13 +20,13 @@ short part h = rw (lt-leb 108 (length part) h)
 
 -- the tests in turn, in the code's terms, each with the answer that is left to decide
 module _ (part s : List ℕ) (o : OsSinitData) (is-rest : s ≡ take (length part - 8) (drop 8 part)) (long : 108 ≤ length part)
-    (is-fields : o ≡ fields_of s) (k : Bool) (is_Known : k ≡ version_known o.version) where
+    (is-fields : o ≡ fields_of s) (k : Bool) (is_known : k ≡ version_known o.version) where
   after : s ≡ after_size part
   after = is-rest ∙ from_offset part 8
 
   from_version : part_answer part ≡ answer_for Refused (OsSinit o) (cond k (cond (elements_end (drop 92 s)) (cond (pmrs_placed o) 0 5) 4) 3)
   unfolding part_answer
-  from_version = rw (le-leb 108 (length part) long, ← after, ← is-fields, ← is_Known)
+  from_version = rw (le-leb 108 (length part) long, ← after, ← is-fields, ← is_known)
 
   unknown : k ≡ false → Refused 3 ≡ part_answer part
   unfolding answer_for

@@ -1,0 +1,14 @@
+use Prim.Native.Nat.{◌-◌, ◌*◌, ◌≤◌}
+use mathlib.Core.Path.{◌≡◌}
+use native.Mathlib.Omega.{arith}
+use Rattle.launch.specs.Rules.{most_reserved}
+use Rattle.capture.specs.Capture.{ranges_at}
+use Rattle.capture.proofs.Ranges.{filled, none_filled, one_filled, all_filled}
+use borrow.Author.Rules.{rules}
+use Rattle.capture.proofs.reserved.Given as goal
+
+abbrev pub invariant-loop-k : goal.invariant-loop-k
+invariant-loop-k l = (l.k ≤ 2 * l.count) × (l.numbers ≡ filled l.s ranges_at (2 * most_reserved) l.k)
+
+abbrev pub decreases-loop-k : goal.decreases-loop-k
+decreases-loop-k l = 2 * l.count - l.k

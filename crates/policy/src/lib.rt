@@ -2,6 +2,8 @@
 //
 // No public function asks anything of its caller: any slice of any length, and any number. Each answer by number reads the string anew; to walk a
 // string once, take the reader's `list_at` and `element_at`.
+#![tactic(auto)]
+
 use policy_answers::{ElementAnswer, FileAnswer, ListAnswer, PartAnswer};
 use policy_reader::read;
 

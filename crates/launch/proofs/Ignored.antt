@@ -1,8 +1,6 @@
 -- Reserved ranges past the count change nothing: every rule reads the count and the ranges within it alone.
 use mathlib.Core.Path.{refl}
-use mathlib.Core.List.{List}
-use Rattle.launch.specs.declared.ReservedRanges.{ReservedRanges}
-use Rattle.launch.specs.Rules.{Input, reserved_tests, platform_tests, rules}
+use Rattle.launch.specs.Rules.{reserved_tests, platform_tests, rules}
 use Rattle.launch.specs.Answer.{answer_of, places_of, measurement_of}
 use Rattle.launch.specs.Ignored.{PastCountIgnored}
 

@@ -1,7 +1,7 @@
 -- The grammar of policy files: the fields of a file in file order, the bytes that they make, and the rules that they obey.
 -- A reading gives every field its value, sizes and counts included, and its bytes are these values joined; nothing here takes bytes apart.
 -- The sentences in quotes are those of the requirements, section 'Policy'; (8), (16) and (32) there are a number's bits. Each part stands before what holds it.
-use Rattle.std.specs.Prelude.{ℕ, ◌+◌, ◌≤◌, ◌<◌, ◌^◌, ◌≡◌, ◌⊎◌, ◌≢◌, cond, ◌||◌, length, eqb}
+use Rattle.std.specs.Prelude.{ℕ, ◌≤◌, ◌<◌, ◌^◌, ◌≡◌, ◌⊎◌, ◌≢◌, cond, ◌||◌, length, eqb}
 use mathlib.Core.List.{List, [], ◌∷◌, ◌++◌, flat_map}
 use Rattle.field.specs.Number as Number
 

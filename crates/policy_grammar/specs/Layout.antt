@@ -1,6 +1,6 @@
 -- The layout of a policy file: every field in file order, with its width and its rule. It decides which field is at fault: the rules on the bytes that
 -- are left change no string that is accepted, but say that "a size, or a 0x10 or 0x14 count, that reaches past what holds it is that field's fault".
-use Rattle.std.specs.Prelude.{ℕ, ◌+◌, ◌*◌, ◌-◌, Bool, cond, ◌&&◌, ◌||◌, List, ◌++◌, take, drop, leb, eqb}
+use Rattle.std.specs.Prelude.{ℕ, ◌+◌, ◌*◌, ◌-◌, Bool, cond, ◌&&◌, ◌||◌, ◌++◌, take, drop, leb, eqb}
 use Rattle.field.specs.Field.{same}
 use Rattle.policy_grammar.specs.Grammar.{Digests, Body, Element, digest_length, launch_type, stm_type, Signing, unsigned_algorithm, PolicyList, Reading, mark_characters, four_zeros, three_zeros, most_lists}
 use Rattle.policy_grammar.specs.Grammar as Grammar

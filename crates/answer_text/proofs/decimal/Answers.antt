@@ -1,12 +1,9 @@
 -- `decimal` meets its contract. The loop's invariant: the digits that are left to put in, and those that stand behind them, are the
 -- number's; and there are places for those that are left.
-use Prim.Native.Nat.{◌≤◌, ◌<◌, ◌^◌}
-use mathlib.Core.Path.{◌≡◌, refl, ◌∙◌}
-use mathlib.Core.List.{◌++◌, append-nil}
+use mathlib.Core.Path.{refl, ◌∙◌}
+use mathlib.Core.List.{append-nil}
 use native.Mathlib.Omega.{arith}
-use borrow.Author.Rules.{rules}
-use lib.ListN.{length, drop, length-set}
-use Rattle.answer_text.specs.Text.{digits, decimal}
+use lib.ListN.{length-set}
 use Rattle.answer_text.proofs.Lines.{tenth, digits_step, digits_end}
 use Rattle.answer_text.proofs.decimal.Goals as goal
 

@@ -1,11 +1,8 @@
 use Prim.Native.Nat.{◌≤◌, ◌<◌, ◌^◌}
-use mathlib.Core.Path.{◌≡◌, refl, ◌∙◌}
-use mathlib.Core.List.{◌++◌, append-nil}
-use native.Mathlib.Omega.{arith}
-use borrow.Author.Rules.{rules}
-use lib.ListN.{length, drop, length-set}
+use mathlib.Core.Path.{◌≡◌}
+use mathlib.Core.List.{◌++◌}
+use lib.ListN.{length, drop}
 use Rattle.answer_text.specs.Text.{digits, decimal}
-use Rattle.answer_text.proofs.Lines.{tenth, digits_step, digits_end}
 use Rattle.answer_text.proofs.decimal.Given as goal
 
 abbrev pub invariant-loop-left : goal.invariant-loop-left

@@ -1,6 +1,5 @@
 -- `hex_digit` meets its contract: below 10 a digit, and else a letter.
 use borrow.Author.Tests.{lt-ltb, le-ltb}
-use borrow.Author.Rules.{rules}
 use Rattle.answer_text.proofs.hex_digit.Goals as goal
 
 pub returns-then-d-lt10 : goal.returns-then-d-lt10

@@ -1,7 +1,6 @@
 -- `output_in` meets its contract: the first line and those of the pages, where the buffer has room for both.
 use native.Mathlib.Omega.{arith}
 use Rattle.answer_text.proofs.Written.{no_room, put_both}
-use borrow.Author.Rules.{rules}
 use Rattle.answer_text.proofs.output_in.Goals as goal
 
 pub returns-then-out-len : goal.returns-then-out-len

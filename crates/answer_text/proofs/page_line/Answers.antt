@@ -1,12 +1,9 @@
 -- `page_line` meets its contract. The loop's invariant: the digits that are left to put in, and what stands behind them, are the line.
-use Prim.Native.Nat.{◌≤◌}
 use mathlib.Core.Path.{◌≡◌, refl, ◌∙◌}
-use mathlib.Core.List.{◌++◌}
 use native.Mathlib.Omega.{arith}
-use lib.ListN.{length, drop, length-set}
+use lib.ListN.{length-set}
 use Rattle.answer_text.specs.Text.{hex, page_line}
 use Rattle.answer_text.proofs.Lines.{hex_step}
-use borrow.Author.Rules.{rules}
 use Rattle.answer_text.proofs.page_line.Goals as goal
 
 pub loop-at-init : goal.loop-at-init

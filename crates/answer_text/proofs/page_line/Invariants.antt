@@ -1,11 +1,8 @@
 use Prim.Native.Nat.{◌≤◌}
-use mathlib.Core.Path.{◌≡◌, refl, ◌∙◌}
+use mathlib.Core.Path.{◌≡◌}
 use mathlib.Core.List.{◌++◌}
-use native.Mathlib.Omega.{arith}
-use lib.ListN.{length, drop, length-set}
+use lib.ListN.{length, drop}
 use Rattle.answer_text.specs.Text.{hex, page_line}
-use Rattle.answer_text.proofs.Lines.{hex_step}
-use borrow.Author.Rules.{rules}
 use Rattle.answer_text.proofs.page_line.Given as goal
 
 abbrev pub invariant-loop-at : goal.invariant-loop-at

@@ -1,5 +1,5 @@
 -- `put_pages` meets its contract. The loop's invariant: the buffer has the lines of the first i pages in their place.
-use Prim.Native.Nat.{ℕ, ◌≤◌, ◌<◌, ◌+◌, ◌*◌, ◌-◌}
+use Prim.Native.Nat.{ℕ, ◌≤◌, ◌<◌, ◌+◌, ◌*◌}
 use mathlib.Core.Path.{◌≡◌, refl, ◌∙◌, ap, sym}
 use mathlib.Core.List.{List}
 use native.Mathlib.Omega.{arith}
@@ -7,7 +7,6 @@ use lib.ListN.{length, take, drop, get_or, length-take}
 use lib.Seq.{paste, paste-zero, length-paste, take_all, get_or-take}
 use Rattle.answer_text.specs.Text.{page_line, page_lines}
 use Rattle.answer_text.proofs.Written.{paste_more, lines_length, line_at, line_length}
-use borrow.Author.Rules.{rules}
 use Rattle.answer_text.proofs.put_pages.Goals as goal
 
 -- one line more

@@ -1,12 +1,8 @@
-use Prim.Native.Nat.{ℕ, ◌≤◌, ◌<◌, ◌+◌, ◌*◌, ◌-◌}
-use mathlib.Core.Path.{◌≡◌, refl, ◌∙◌, ap, sym}
-use mathlib.Core.List.{List}
-use native.Mathlib.Omega.{arith}
-use lib.ListN.{length, take, drop, get_or, length-take}
-use lib.Seq.{paste, paste-zero, length-paste, take_all, get_or-take}
-use Rattle.answer_text.specs.Text.{page_line, page_lines}
-use Rattle.answer_text.proofs.Written.{paste_more, lines_length, line_at, line_length}
-use borrow.Author.Rules.{rules}
+use Prim.Native.Nat.{◌≤◌, ◌*◌, ◌-◌}
+use mathlib.Core.Path.{◌≡◌}
+use lib.ListN.{length, take}
+use lib.Seq.{paste}
+use Rattle.answer_text.specs.Text.{page_lines}
 use Rattle.answer_text.proofs.put_pages.Given as goal
 
 abbrev pub invariant-loop-i : goal.invariant-loop-i

@@ -1,7 +1,6 @@
 -- `refused_line` meets its contract: each piece goes behind the one before.
 use native.Mathlib.Omega.{arith}
 use Rattle.answer_text.proofs.Lines.{placed_said, number_said}
-use borrow.Author.Rules.{rules}
 use Rattle.answer_text.proofs.refused_line.Goals as goal
 
 pub returns-then-a-eq-NOT_OF_GRAMMAR : goal.returns-then-a-eq-NOT_OF_GRAMMAR

@@ -1,7 +1,6 @@
 -- `shown` meets its contract: no pages on a refusal, else as many as there are pages or places.
 use native.Mathlib.Omega.{arith}
 use Rattle.answer_text.proofs.Written.{shown_none, shown_some, shown_all}
-use borrow.Author.Rules.{rules}
 use Rattle.answer_text.proofs.shown.Goals as goal
 
 pub returns-then-a-ne0 : goal.returns-then-a-ne0

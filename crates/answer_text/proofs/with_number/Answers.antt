@@ -2,7 +2,6 @@
 use mathlib.Core.Path.{◌∙◌, ap}
 use mathlib.Core.List.{◌++◌}
 use native.Mathlib.Omega.{arith}
-use borrow.Author.Rules.{rules}
 use Rattle.answer_text.specs.Text.{written}
 use Rattle.answer_text.proofs.Lines.{rest}
 use Rattle.answer_text.proofs.with_number.Goals as goal

@@ -1,9 +1,6 @@
 -- `with_text` meets its contract. The loop's invariant: the line has the text that was there, and behind it what was put in so far.
-use Prim.Native.Nat.{◌≤◌, ◌+◌, ◌-◌}
-use mathlib.Core.Path.{◌≡◌}
-use mathlib.Core.List.{◌++◌}
 use native.Mathlib.Omega.{arith}
-use lib.ListN.{length, take, length-set}
+use lib.ListN.{length-set}
 use Rattle.answer_text.proofs.Lines.{text_start, text_step, text_end}
 use borrow.Author.Rules.{rules}
 use Rattle.answer_text.proofs.with_text.Goals as goal

@@ -1,10 +1,7 @@
 use Prim.Native.Nat.{◌≤◌, ◌+◌, ◌-◌}
 use mathlib.Core.Path.{◌≡◌}
 use mathlib.Core.List.{◌++◌}
-use native.Mathlib.Omega.{arith}
-use lib.ListN.{length, take, length-set}
-use Rattle.answer_text.proofs.Lines.{text_start, text_step, text_end}
-use borrow.Author.Rules.{rules}
+use lib.ListN.{length, take}
 use Rattle.answer_text.proofs.with_text.Given as goal
 
 abbrev pub invariant-loop-i : goal.invariant-loop-i

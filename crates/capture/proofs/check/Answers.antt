@@ -2,7 +2,6 @@
 use mathlib.Core.Path.{◌∙◌}
 use Rattle.capture.proofs.Conditions.{no_capture, a_capture, counted, whole}
 use native.Mathlib.Omega.{arith}
-use borrow.Author.Rules.{rules}
 use Rattle.capture.proofs.check.Goals as goal
 
 pub returns-then-not-holds : goal.returns-then-not-holds

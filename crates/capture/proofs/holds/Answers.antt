@@ -6,7 +6,6 @@ use Rattle.rules.proofs.Tests.{fails, agrees, confirmed, refuted}
 use Rattle.field.proofs.Laws.{marked_at_lem}
 use Rattle.capture.specs.Capture.{known_version}
 use Rattle.capture.proofs.Conditions.{known_exactly, capture_exactly}
-use borrow.Author.Rules.{rules}
 use Rattle.capture.proofs.holds.Goals as goal
 
 pub returns-then-not-is_known : goal.returns-then-not-is_known

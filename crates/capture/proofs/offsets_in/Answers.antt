@@ -1,6 +1,5 @@
 -- `offsets_in` meets its contract: each part begins where the one before it ends.
 use native.Mathlib.Omega.{arith}
-use borrow.Author.Rules.{rules}
 use Rattle.capture.proofs.offsets_in.Goals as goal
 
 pub returns : goal.returns

@@ -1,6 +1,4 @@
 -- `platform` meets its contract: each field is read where it stands.
-use borrow.Author.Rules.{rules}
-use Rattle.capture.proofs.number16.Reads as number16-reads
 use Rattle.capture.proofs.platform.Goals as goal
 
 pub returns : goal.returns

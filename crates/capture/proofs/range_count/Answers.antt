@@ -3,7 +3,6 @@ use mathlib.Core.Path.{sym, ◌∙◌}
 use native.Mathlib.Omega.{arith}
 use borrow.Author.Tests.{eq-eqb, ne_eqb}
 use Rattle.capture.specs.Capture.{range_count}
-use borrow.Author.Rules.{rules}
 use Rattle.capture.proofs.range_count.Goals as goal
 
 pub returns-then-version-eq-SECOND : goal.returns-then-version-eq-SECOND

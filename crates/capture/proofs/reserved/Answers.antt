@@ -1,11 +1,10 @@
 -- `reserved` meets its contract: after k turns the first k numbers stand at the front, and zeros behind them.
-use Prim.Native.Nat.{◌-◌, ◌*◌, ◌≤◌}
+use Prim.Native.Nat.{◌*◌}
 use mathlib.Core.Path.{◌≡◌}
 use native.Mathlib.Omega.{arith}
 use Rattle.launch.specs.Rules.{most_reserved}
 use Rattle.capture.specs.Capture.{ranges_at}
-use Rattle.capture.proofs.Ranges.{filled, none_filled, one_filled, all_filled}
-use borrow.Author.Rules.{rules}
+use Rattle.capture.proofs.Ranges.{none_filled, one_filled, all_filled}
 use Rattle.capture.proofs.reserved.Goals as goal
 
 pub loop-k-init : goal.loop-k-init

@@ -1,10 +1,8 @@
 use Prim.Native.Nat.{◌-◌, ◌*◌, ◌≤◌}
 use mathlib.Core.Path.{◌≡◌}
-use native.Mathlib.Omega.{arith}
 use Rattle.launch.specs.Rules.{most_reserved}
 use Rattle.capture.specs.Capture.{ranges_at}
-use Rattle.capture.proofs.Ranges.{filled, none_filled, one_filled, all_filled}
-use borrow.Author.Rules.{rules}
+use Rattle.capture.proofs.Ranges.{filled}
 use Rattle.capture.proofs.reserved.Given as goal
 
 abbrev pub invariant-loop-k : goal.invariant-loop-k

@@ -1,15 +1,8 @@
-use Prim.Native.Nat.{ℕ, suc, ◌+◌, ◌*◌, ◌-◌, ◌^◌, ◌≤◌, ◌<◌}
+use Prim.Native.Nat.{◌+◌, ◌-◌, ◌≤◌}
 use mathlib.Core.Path.{◌≡◌}
-use mathlib.Core.List.{List}
-use native.Mathlib.Nat.{lt_of_lt_of_le, pow-le-pow_right, sub_self}
-use native.Mathlib.Omega.{arith}
-use borrow.Author.Rules.{rules}
-use lib.Dec.{lit<}
-use lib.ListN.{length, get_or, drop}
-use lib.Seq.{drop-cons}
+use lib.ListN.{drop}
 use Rattle.field.specs.Number as spec
 use Rattle.field.specs.Number.{Bytes}
-use Rattle.field.proofs.Laws.{bytes_drop, number_below}
 use Rattle.field.proofs.number.Given as goal
 
 abbrev pub invariant-loop-k : goal.invariant-loop-k

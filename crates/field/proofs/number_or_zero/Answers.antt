@@ -1,7 +1,6 @@
 -- `number_or_zero` meets its contract: it gives the number of the field that `read` gives.
 use Prim.Native.Nat.{ℕ, ◌<◌}
 use mathlib.Core.Path.{◌≡◌, ap, sym, ◌∙◌}
-use borrow.Author.Rules.{rules}
 use Rattle.field.specs.declared.Field.{Field}
 use Rattle.field.specs.Field.{value_of}
 use Rattle.field.proofs.number_or_zero.Goals as goal

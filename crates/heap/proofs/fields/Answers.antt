@@ -1,5 +1,4 @@
 -- `fields` meets its contract: each field is the number at its offset.
-use borrow.Author.Rules.{rules}
 use Rattle.heap.specs.Heap.{fields_of}
 use Rattle.heap.proofs.fields.Goals as goal
 

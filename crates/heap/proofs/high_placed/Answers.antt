@@ -1,7 +1,6 @@
 -- `high_placed` meets its contract: a PMR of size 0 passes, and any other that begins high enough is handed to `ends_by`.
 use native.Mathlib.Omega.{arith}
 use borrow.Author.Tests.{le-leb, lt-leb, eq-eqb, ne_eqb}
-use borrow.Author.Rules.{rules}
 use Rattle.heap.specs.Heap.{low_limit, high_placed}
 use Rattle.heap.proofs.high_placed.Goals as goal
 

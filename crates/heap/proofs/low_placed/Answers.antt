@@ -1,6 +1,5 @@
 -- `low_placed` meets its contract: a PMR of size 0 passes, and any other is handed to `ends_by`.
 use borrow.Author.Tests.{eq-eqb, ne_eqb}
-use borrow.Author.Rules.{rules}
 use Rattle.heap.specs.Heap.{low_placed}
 use Rattle.heap.proofs.low_placed.Goals as goal
 

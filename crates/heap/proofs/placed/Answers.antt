@@ -1,6 +1,5 @@
 -- `placed` meets its contract: both PMRs are in their places.
 use mathlib.Core.Path.{sym, ◌∙◌}
-use borrow.Author.Rules.{rules}
 use Rattle.heap.specs.Heap.{pmrs_placed}
 use Rattle.heap.proofs.placed.Goals as goal
 

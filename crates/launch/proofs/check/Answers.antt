@@ -1,5 +1,4 @@
 -- `check` meets its contract: that of `check_measured`, without the measurement.
-use borrow.Author.Rules.{rules}
 use Rattle.launch.proofs.check.Goals as goal
 
 pub returns : goal.returns

@@ -1,7 +1,6 @@
 -- `check_measured` meets its contract: the outcome of all stages, shown, and its pages and measurement written.
 use mathlib.Core.Path.{◌∙◌}
 use Rattle.launch.proofs.Whole.{answer_is, places_are, measurement_is}
-use borrow.Author.Rules.{rules}
 use Rattle.launch.proofs.check_measured.Goals as goal
 
 pub returns : goal.returns

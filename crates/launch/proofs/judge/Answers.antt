@@ -1,7 +1,6 @@
 -- `judge` meets its contract: what the launch finds, and what the policy decides.
 use mathlib.Core.Path.{◌∙◌, sym}
 use Rattle.launch.proofs.Whole.{find_refuses, find_passes}
-use borrow.Author.Rules.{rules}
 use Rattle.launch.proofs.judge.Goals as goal
 
 pub returns-in-Refused : goal.returns-in-Refused

@@ -2,7 +2,6 @@
 use Prim.Native.Nat.{ℕ, ◌%◌}
 use mathlib.Core.Path.{◌≡◌}
 use lib.Bits.{bit_and, and_mask}
-use borrow.Author.Rules.{rules}
 use Rattle.policy_record.proofs.mask_has_sha256.Goals as goal
 
 lowest : (x : ℕ) → bit_and x 1 ≡ x % 2

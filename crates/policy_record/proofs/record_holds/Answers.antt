@@ -4,7 +4,6 @@ use native.Mathlib.Omega.{arith}
 use borrow.Author.Tests.{eqb-true, eqb-false, eq-eqb}
 use Rattle.rules.proofs.Tests.{fails, holds, agrees, confirmed, refuted}
 use Rattle.policy_record.proofs.Conditions.{record_exactly}
-use borrow.Author.Rules.{rules}
 use Rattle.policy_record.proofs.record_holds.Goals as goal
 
 pub returns-then-record-ne-RECORD_SIZE : goal.returns-then-record-ne-RECORD_SIZE

@@ -1,5 +1,4 @@
 -- `revocation_counter` meets its contract: the number at the counter's offset.
-use borrow.Author.Rules.{rules}
 use Rattle.policy_record.proofs.revocation_counter.Goals as goal
 
 pub returns : goal.returns

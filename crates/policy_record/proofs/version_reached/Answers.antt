@@ -1,6 +1,5 @@
 -- `version_reached` meets its contract.
 use Rattle.policy_record.specs.Record.{version_reached}
-use borrow.Author.Rules.{rules}
 use Rattle.policy_record.proofs.version_reached.Goals as goal
 
 pub returns : goal.returns

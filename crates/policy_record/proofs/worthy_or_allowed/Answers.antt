@@ -8,7 +8,6 @@ use lib.Bits.{bit_and, and_mask}
 use Rattle.rules.proofs.Tests.{holds, agrees}
 use Rattle.policy_record.specs.Meaning.{Bit}
 use Rattle.policy_record.proofs.Conditions.{worthy_or_allowed_exactly}
-use borrow.Author.Rules.{rules}
 use Rattle.policy_record.proofs.worthy_or_allowed.Goals as goal
 
 high : (y z : ℕ) → z ≡ y / 2 → y % 2 ≡ 0 → (y % 4 ≡ 0 → ⊥) → z % 2 ≡ 1

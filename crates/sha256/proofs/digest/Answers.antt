@@ -1,5 +1,5 @@
 -- The whole blocks of the message are hashed first, and what it leaves behind them with the padding.
-use Rattle.std.proofs.Common.{◌*◌, ◌/◌, length, ◌∙◌, arith, length-drop, rules}
+use Rattle.std.proofs.Common.{◌*◌, ◌/◌, length, ◌∙◌, arith, length-drop}
 use Rattle.sha256.proofs.Hashing.{to_end}
 use Rattle.sha256.proofs.Parts.{digest_parts}
 use Rattle.sha256.proofs.digest.Goals as goal

@@ -1,6 +1,6 @@
 -- The loop puts in one byte of the hash value at each turn.
-use Rattle.std.proofs.Common.{◌≡◌, ◌-◌, ◌≤◌, length, replicate, sym, refl, ◌∙◌, zero-add, arith, length-set, rules}
-use lib.Seq.{paste, paste-zero}
+use Rattle.std.proofs.Common.{replicate, sym, refl, ◌∙◌, zero-add, arith, length-set, rules}
+use lib.Seq.{paste-zero}
 use Rattle.sha256.specs.Message.{digest_of}
 use Rattle.sha256.proofs.Fill.{fill_step, fill_end}
 use Rattle.sha256.proofs.BigEndian.{length_digest, get_d_digest}

@@ -1,8 +1,6 @@
-use Rattle.std.proofs.Common.{◌≡◌, ◌-◌, ◌≤◌, length, replicate, sym, refl, ◌∙◌, zero-add, arith, length-set, rules}
-use lib.Seq.{paste, paste-zero}
+use Rattle.std.proofs.Common.{◌≡◌, ◌-◌, ◌≤◌, length, replicate}
+use lib.Seq.{paste}
 use Rattle.sha256.specs.Message.{digest_of}
-use Rattle.sha256.proofs.Fill.{fill_step, fill_end}
-use Rattle.sha256.proofs.BigEndian.{length_digest, get_d_digest}
 use Rattle.sha256.proofs.digest_bytes.Given as goal
 
 abbrev pub invariant-loop-i : goal.invariant-loop-i

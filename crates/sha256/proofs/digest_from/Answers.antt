@@ -1,5 +1,5 @@
 -- Rest and padding stand at the front of the array, and the digest is that of the hash value after them.
-use Rattle.std.proofs.Common.{sym, refl, ap, ◌∙◌, arith, length-take-le, rules}
+use Rattle.std.proofs.Common.{sym, refl, ap, ◌∙◌, arith, length-take-le}
 use Rattle.sha256_block.specs.Block.{hash_blocks}
 use Rattle.sha256.specs.Message.{digest_of}
 use Rattle.sha256.proofs.digest_from.Goals as goal

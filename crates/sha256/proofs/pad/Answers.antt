@@ -1,5 +1,5 @@
 -- Each of the three writes keeps the length of p, and the law says what then stands at its front.
-use Rattle.std.proofs.Common.{length, ap, arith, length-set, rules}
+use Rattle.std.proofs.Common.{length, ap, arith, length-set}
 use Rattle.sha256.proofs.Padding.{front}
 use Rattle.sha256.proofs.pad.Goals as goal
 

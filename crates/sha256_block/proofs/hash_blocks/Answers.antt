@@ -1,5 +1,5 @@
 -- What is left to hash stays the same hash value as the loop goes on.
-use Rattle.std.proofs.Common.{◌≡◌, ℕ, ◌+◌, ◌-◌, ◌*◌, ◌/◌, ◌≤◌, List, length, drop, sym, refl, ap, ◌∙◌, arith}
+use Rattle.std.proofs.Common.{ℕ, ◌+◌, ◌-◌, ◌*◌, ◌/◌, List, length, drop, sym, refl, ap, ◌∙◌, arith}
 use Rattle.sha256_block.specs.Block.{hash}
 use Rattle.sha256_block.proofs.Blocks.{none_yet, one_block, all_done}
 use Rattle.sha256_block.proofs.hash_blocks.Goals as goal

@@ -1,6 +1,5 @@
-use Rattle.std.proofs.Common.{◌≡◌, ℕ, ◌+◌, ◌-◌, ◌*◌, ◌/◌, ◌≤◌, List, length, drop, sym, refl, ap, ◌∙◌, arith}
+use Rattle.std.proofs.Common.{◌≡◌, ◌-◌, ◌*◌, ◌/◌, ◌≤◌, length, drop}
 use Rattle.sha256_block.specs.Block.{hash}
-use Rattle.sha256_block.proofs.Blocks.{none_yet, one_block, all_done}
 use Rattle.sha256_block.proofs.hash_blocks.Given as goal
 
 abbrev pub invariant-loop-k : goal.invariant-loop-k

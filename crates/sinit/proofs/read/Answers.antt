@@ -1,6 +1,5 @@
 -- `read` meets its contract: 0 gives the values, and every other number is a refusal.
 use mathlib.Core.Path.{ap, sym, ◌∙◌}
-use borrow.Author.Rules.{rules}
 use Rattle.rules.specs.Rules.{answer_for}
 use Rattle.rules.proofs.Answers.{for_zero, for_other}
 use Rattle.sinit.specs.declared.ModuleAnswer.TheVariants.{Module, Refused}

@@ -1,6 +1,5 @@
 -- `digests_name` meets its contract: one law for each answer.
 use Rattle.decision.proofs.Naming.{other_algorithm, asked}
-use borrow.Author.Rules.{rules}
 use Rattle.decision.proofs.elements.digests_name.Goals as goal
 
 pub returns-then-hash_alg-ne-SHA256_ALG : goal.returns-then-hash_alg-ne-SHA256_ALG

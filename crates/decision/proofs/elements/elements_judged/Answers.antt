@@ -1,19 +1,11 @@
 -- `elements_judged` meets its contract. The invariant: whatever elements stand from `start` on, those that are left stand from the offset on, and
 -- what they say with what was found is what all say.
-use Prim.Native.Nat.{ℕ, ◌-◌}
 use mathlib.Core.Path.{◌∙◌}
-use mathlib.Core.Logic.{⊎_elim}
-use mathlib.Core.List.{List, []}
+use mathlib.Core.List.{[]}
 use native.Mathlib.Omega.{arith}
-use borrow.Author.Tests.{not-true, not-false}
-use lib.ListN.{length}
-use Rattle.policy_grammar.specs.Grammar.{Element}
 use Rattle.policy_reader.proofs.Standing as kinds
-use Rattle.policy_reader.proofs.Walk.{Left, front, onward, ended}
-use Rattle.decision.specs.Answers.{criteria_of}
-use Rattle.decision.specs.Inner.{ElementsStand}
-use Rattle.decision.proofs.Judging.{Judging, judging_start, judging_end, fits, unjudged, judging_step}
-use borrow.Author.Rules.{rules}
+use Rattle.policy_reader.proofs.Walk.{front, onward, ended}
+use Rattle.decision.proofs.Judging.{judging_start, judging_end, fits, unjudged, judging_step}
 use Rattle.decision.proofs.elements.elements_judged.Goals as goal
 use Rattle.decision.proofs.elements.elements_judged.Goals.{then-names, else-names, then-is_stm, else-is_stm}
 

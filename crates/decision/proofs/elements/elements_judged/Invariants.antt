@@ -1,17 +1,12 @@
 use Prim.Native.Nat.{ℕ, ◌-◌}
-use mathlib.Core.Path.{◌∙◌}
-use mathlib.Core.Logic.{⊎_elim}
-use mathlib.Core.List.{List, []}
-use native.Mathlib.Omega.{arith}
-use borrow.Author.Tests.{not-true, not-false}
+use mathlib.Core.List.{List}
 use lib.ListN.{length}
 use Rattle.policy_grammar.specs.Grammar.{Element}
 use Rattle.policy_reader.proofs.Standing as kinds
-use Rattle.policy_reader.proofs.Walk.{Left, front, onward, ended}
+use Rattle.policy_reader.proofs.Walk.{Left}
 use Rattle.decision.specs.Answers.{criteria_of}
 use Rattle.decision.specs.Inner.{ElementsStand}
-use Rattle.decision.proofs.Judging.{Judging, judging_start, judging_end, fits, unjudged, judging_step}
-use borrow.Author.Rules.{rules}
+use Rattle.decision.proofs.Judging.{Judging}
 use Rattle.decision.proofs.elements.elements_judged.Given as goal
 
 abbrev pub invariant-loop-at : goal.invariant-loop-at

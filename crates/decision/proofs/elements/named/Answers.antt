@@ -1,7 +1,6 @@
 -- `named` meets its contract. The invariant: the digest is one of all exactly where it is one of those that are left.
-use Prim.Native.Nat.{◌+◌, ◌*◌, ◌≤◌}
-use mathlib.Core.Path.{◌≡◌, refl}
-use Rattle.decision.proofs.Digests.{named_from, first_is, first_is_not, none_left}
+use mathlib.Core.Path.{refl}
+use Rattle.decision.proofs.Digests.{first_is, first_is_not, none_left}
 use borrow.Author.Rules.{rules}
 use Rattle.decision.proofs.elements.named.Goals as goal
 

@@ -1,7 +1,6 @@
 use Prim.Native.Nat.{◌+◌, ◌*◌, ◌≤◌}
-use mathlib.Core.Path.{◌≡◌, refl}
-use Rattle.decision.proofs.Digests.{named_from, first_is, first_is_not, none_left}
-use borrow.Author.Rules.{rules}
+use mathlib.Core.Path.{◌≡◌}
+use Rattle.decision.proofs.Digests.{named_from}
 use Rattle.decision.proofs.elements.named.Given as goal
 
 abbrev pub invariant-loop-left : goal.invariant-loop-left

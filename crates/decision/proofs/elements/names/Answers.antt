@@ -4,7 +4,6 @@ use lib.Dec.{lit<}
 use Rattle.decision.specs.Lists.{names}
 use Rattle.decision.specs.Answers.{criteria_of}
 use Rattle.decision.proofs.Naming.{other_case, count_fits, later_version, launch_names_lem}
-use borrow.Author.Rules.{rules}
 use Rattle.decision.proofs.elements.names.Goals as goal
 
 pub returns-then-k-sinit_min_version : goal.returns-then-k-sinit_min_version

@@ -3,7 +3,6 @@ use mathlib.Core.Path.{refl}
 use lib.Dec.{lit<}
 use Rattle.decision.specs.Lists.{names_stm}
 use Rattle.decision.proofs.Naming.{other_case, count_fits, stm_names}
-use borrow.Author.Rules.{rules}
 use Rattle.decision.proofs.elements.names_stm.Goals as goal
 
 pub digests_name-requires : goal.digests_name-requires

@@ -1,15 +1,9 @@
 -- `stm_named` meets its contract. The invariant: whatever elements stand from `start` on, those that are left stand from the offset on, and one of
 -- all names the digest exactly where one of them does.
-use Prim.Native.Nat.{◌-◌}
-use mathlib.Core.List.{List}
 use native.Mathlib.Omega.{arith}
-use lib.ListN.{length}
-use Rattle.policy_grammar.specs.Grammar.{Element}
 use Rattle.policy_reader.proofs.Standing as kinds
-use Rattle.policy_reader.proofs.Walk.{Left, front, onward, ended}
-use Rattle.decision.specs.Inner.{ElementsStand}
-use Rattle.decision.proofs.Judging.{Naming, naming_start, naming_end, fits, this_names, this_does_not_name}
-use borrow.Author.Rules.{rules}
+use Rattle.policy_reader.proofs.Walk.{front, onward, ended}
+use Rattle.decision.proofs.Judging.{naming_start, naming_end, fits, this_names, this_does_not_name}
 use Rattle.decision.proofs.elements.stm_named.Goals as goal
 
 pub loop-at-init : goal.loop-at-init

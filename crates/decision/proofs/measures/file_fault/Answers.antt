@@ -11,7 +11,6 @@ use Rattle.decision.specs.declared.FileFault.{FileFault}
 use Rattle.decision.specs.Lists.{of_grammar, hash_matches}
 use Rattle.decision.specs.Answers.{place_for, file_fault_of}
 use Rattle.decision.proofs.Walking.{grammar_is, place_is}
-use borrow.Author.Rules.{rules}
 use Rattle.decision.proofs.measures.file_fault.Goals as goal
 
 refused : (file r : List ℕ) (p : ℕ) → of_grammar file ≡ false → fault_place file ≡ p → record { number = 27; place = p } ≡ file_fault_of file r

@@ -1,14 +1,11 @@
 -- `hash` meets its contract. The invariant: the state holds the measures of the lists that were passed, and the others stand from the offset on.
-use Prim.Native.Nat.{◌-◌}
 use mathlib.Core.Path.{◌∙◌}
 use native.Mathlib.Omega.{arith}
-use lib.ListN.{length}
 use Rattle.policy_reader.proofs.Standing as kinds
-use Rattle.policy_reader.proofs.Walk.{Left, front, onward, ended}
+use Rattle.policy_reader.proofs.Walk.{front, onward, ended}
 use Rattle.decision.specs.Lists.{lists_of}
 use Rattle.decision.proofs.Walking.{starts}
-use Rattle.decision.proofs.Hashing.{measure_is, Hashing, hashing_start, hashing_step, hashing_end}
-use borrow.Author.Rules.{rules}
+use Rattle.decision.proofs.Hashing.{measure_is, hashing_start, hashing_step, hashing_end}
 use Rattle.decision.proofs.measures.hash.Goals as goal
 
 pub loop-at-init : goal.loop-at-init

@@ -1,13 +1,9 @@
 use Prim.Native.Nat.{◌-◌}
-use mathlib.Core.Path.{◌∙◌}
-use native.Mathlib.Omega.{arith}
 use lib.ListN.{length}
 use Rattle.policy_reader.proofs.Standing as kinds
-use Rattle.policy_reader.proofs.Walk.{Left, front, onward, ended}
+use Rattle.policy_reader.proofs.Walk.{Left}
 use Rattle.decision.specs.Lists.{lists_of}
-use Rattle.decision.proofs.Walking.{starts}
-use Rattle.decision.proofs.Hashing.{measure_is, Hashing, hashing_start, hashing_step, hashing_end}
-use borrow.Author.Rules.{rules}
+use Rattle.decision.proofs.Hashing.{Hashing}
 use Rattle.decision.proofs.measures.hash.Given as goal
 
 abbrev pub invariant-loop-at : goal.invariant-loop-at

@@ -5,7 +5,6 @@ use mathlib.Core.List.{List}
 use Rattle.policy_answers.specs.declared.ListAnswer.{ListAnswer}
 use Rattle.policy_answers.specs.Seen.{seen_list}
 use Rattle.decision.specs.Inner.{measured_seen}
-use borrow.Author.Rules.{rules}
 use Rattle.decision.proofs.measures.measured.Goals as goal
 
 of_case : (s : List ℕ) {l v : ListAnswer} {x : List ℕ} → l ≡ v → x ≡ measured_seen (seen_list s v) → x ≡ measured_seen (seen_list s l)

@@ -1,7 +1,6 @@
 -- `policy_hash` meets its contract: a file that the reader refuses has no lists.
 use Rattle.decision.proofs.Walking.{grammar_is}
 use Rattle.decision.proofs.Hashing.{hash_of_none}
-use borrow.Author.Rules.{rules}
 use Rattle.decision.proofs.measures.policy_hash.Goals as goal
 
 pub hash-requires : goal.hash-requires

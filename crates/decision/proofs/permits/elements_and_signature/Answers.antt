@@ -1,11 +1,9 @@
 -- `elements_and_signature` meets its contract: by what the elements say, the signature and the STM image.
 use mathlib.Core.Path.{sym, ◌∙◌}
-use borrow.Author.Tests.{not-true, not-false}
 use Rattle.decision.specs.Lists.{elements_permit}
 use Rattle.decision.specs.Answers.{criteria_of}
 use Rattle.decision.proofs.Judging.{do_not_permit, do_permit, no_image_lem, by_digest}
 use Rattle.decision.proofs.ListAnswers.{elements_refuse, signature_refuses, signature_decides, elements_decide}
-use borrow.Author.Rules.{rules}
 use Rattle.decision.proofs.permits.elements_and_signature.Goals as goal
 
 pub elements_judged-requires : goal.elements_judged-requires

@@ -1,10 +1,8 @@
 -- `list_permits` meets its contract: by the counter, then the elements, which stand in the file up to their end, and the signature.
 use mathlib.Core.Path.{sym, ◌∙◌}
 use native.Mathlib.Omega.{arith}
-use borrow.Author.Tests.{not-true, not-false}
 use lib.Seq.{length-take-le}
 use Rattle.decision.proofs.ListAnswers.{listed, has_elements, counter_too_low, counter_reached}
-use borrow.Author.Rules.{rules}
 use Rattle.decision.proofs.permits.list_permits.Goals as goal
 
 pub returns-then-not-counter_reached : goal.returns-then-not-counter_reached

@@ -1,16 +1,11 @@
 use Prim.Native.Nat.{◌-◌, ◌≤◌}
-use mathlib.Core.Bool.{true≢false}
-use mathlib.Core.Path.{sym}
-use native.Mathlib.Omega.{arith}
 use lib.ListN.{length}
 use Rattle.policy_reader.proofs.Standing as kinds
-use Rattle.policy_reader.proofs.Walk.{Left, front, onward, ended}
-use Rattle.decision.specs.Lists.{lists_of, lowest_permitting}
+use Rattle.policy_reader.proofs.Walk.{Left}
+use Rattle.decision.specs.Lists.{lists_of}
 use Rattle.decision.specs.Answers.{criteria_of}
 use Rattle.decision.specs.Inner.{Known}
-use Rattle.decision.proofs.Walking.{starts, short}
-use Rattle.decision.proofs.Lowest.{Lowest, list_stands, lowest_start, lowest_end, this_permits, this_does_not}
-use borrow.Author.Rules.{rules}
+use Rattle.decision.proofs.Lowest.{Lowest}
 use Rattle.decision.proofs.permits.lowest_in.Given as goal
 
 abbrev pub invariant-loop-at : goal.invariant-loop-at

@@ -1,7 +1,6 @@
 -- `lowest_permitting` meets its contract: a file that the reader refuses has no lists, and those of one that it accepts are tried in turn.
 use Rattle.decision.proofs.Walking.{grammar_is}
 use Rattle.decision.proofs.Lowest.{none_permits}
-use borrow.Author.Rules.{rules}
 use Rattle.decision.proofs.permits.lowest_permitting.Goals as goal
 
 pub lowest_in-requires : goal.lowest_in-requires

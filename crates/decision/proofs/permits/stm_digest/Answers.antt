@@ -1,6 +1,5 @@
 -- `stm_digest` meets its contract: the digest that is known, or the one that is worked out.
 use mathlib.Core.Path.{refl}
-use borrow.Author.Rules.{rules}
 use Rattle.decision.proofs.permits.stm_digest.Goals as goal
 
 pub returns-then-before : goal.returns-then-before

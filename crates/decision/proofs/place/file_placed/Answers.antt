@@ -5,7 +5,6 @@ use native.Mathlib.Omega.{arith}
 use Rattle.range.proofs.Ranges.{inside_bounds}
 use Rattle.rules.proofs.Tests.{fails, agrees}
 use Rattle.decision.proofs.Conditions.{placed_exactly}
-use borrow.Author.Rules.{rules}
 use Rattle.decision.proofs.place.file_placed.Goals as goal
 
 pub returns-then-size : goal.returns-then-size

@@ -1,6 +1,5 @@
 -- `counter_reached` meets its contract, case by case.
 use Rattle.decision.proofs.ListAnswers.{counter_read}
-use borrow.Author.Rules.{rules}
 use Rattle.decision.proofs.signing.counter_reached.Goals as goal
 
 pub returns-in-Signed : goal.returns-in-Signed

@@ -1,6 +1,5 @@
 -- `signature_verifies` meets its contract, case by case.
 use Rattle.decision.proofs.ListAnswers.{signature_read}
-use borrow.Author.Rules.{rules}
 use Rattle.decision.proofs.signing.signature_verifies.Goals as goal
 
 pub returns-in-Signed : goal.returns-in-Signed

@@ -1,5 +1,4 @@
 -- `by_any` meets its contract: the digest is that of the image.
-use borrow.Author.Rules.{rules}
 use Rattle.launch.proofs.decide.by_any.Goals as goal
 
 pub returns : goal.returns

@@ -1,7 +1,6 @@
 -- `by_file` meets its contract: rule 29.
 use mathlib.Core.Path.{◌∙◌}
 use Rattle.launch.proofs.Deciding.{no_list_lem, a_list}
-use borrow.Author.Rules.{rules}
 use Rattle.launch.proofs.decide.by_file.Goals as goal
 
 pub returns-then-list-eq-NO_LIST : goal.returns-then-list-eq-NO_LIST

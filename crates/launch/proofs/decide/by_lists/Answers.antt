@@ -1,8 +1,6 @@
 -- `by_lists` meets its contract: rules 26 to 28, and what is left.
 use mathlib.Core.Path.{◌∙◌, sym}
-use borrow.Author.Tests.{not-true, not-false}
 use Rattle.launch.proofs.Deciding.{not_placed, file_refuses, file_passes}
-use borrow.Author.Rules.{rules}
 use Rattle.launch.proofs.decide.by_lists.Goals as goal
 
 pub returns-then-not-file_placed : goal.returns-then-not-file_placed

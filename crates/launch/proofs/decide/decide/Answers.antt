@@ -1,7 +1,6 @@
 -- `decide` meets its contract: rules 23 to 25, and what is left.
 use mathlib.Core.Path.{◌∙◌, sym}
 use Rattle.launch.proofs.Deciding.{record_refuses, record_any, record_list}
-use borrow.Author.Rules.{rules}
 use Rattle.launch.proofs.decide.decide.Goals as goal
 
 pub returns-in-Refused : goal.returns-in-Refused

@@ -1,5 +1,4 @@
 -- `refusal` meets its contract: a refusal that shows nothing.
-use borrow.Author.Rules.{rules}
 use Rattle.launch.proofs.decide.refusal.Goals as goal
 
 pub returns : goal.returns

@@ -1,5 +1,4 @@
 -- `refusal_showing` meets its contract: no pages, the answer of a refusal, and the measurement.
-use borrow.Author.Rules.{rules}
 use Rattle.launch.proofs.decide.refusal_showing.Goals as goal
 
 pub returns : goal.returns

@@ -1,9 +1,7 @@
 -- `find` meets its contract: rules 1 to 11, and what is left.
 use mathlib.Core.Path.{◌∙◌, sym}
-use borrow.Author.Tests.{not-true, not-false}
 use Rattle.launch.proofs.Conditions.{platform_exactly}
 use Rattle.launch.proofs.Finding.{platform_refuses, heap_refuses, module_refuses, module_passes}
-use borrow.Author.Rules.{rules}
 use Rattle.launch.proofs.find.find.Goals as goal
 
 pub returns-then-not-platform_holds : goal.returns-then-not-platform_holds

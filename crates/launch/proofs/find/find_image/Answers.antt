@@ -1,8 +1,6 @@
 -- `find_image` meets its contract: rules 21 and 22.
 use mathlib.Core.Path.{◌∙◌, sym}
-use borrow.Author.Tests.{not-true, not-false}
 use Rattle.launch.proofs.Finding.{count_refuses, header_refuses, header_passes}
-use borrow.Author.Rules.{rules}
 use Rattle.launch.proofs.find.find_image.Goals as goal
 
 pub returns-then-image-o : goal.returns-then-image-o

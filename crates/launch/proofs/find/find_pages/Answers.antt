@@ -1,8 +1,6 @@
 -- `find_pages` meets its contract: rules 12 to 20, and what is left.
 use mathlib.Core.Path.{◌∙◌, sym}
-use borrow.Author.Tests.{not-true, not-false}
 use Rattle.launch.proofs.Finding.{size_refuses, room_refuses, walk_refuses, walk_passes}
-use borrow.Author.Rules.{rules}
 use Rattle.launch.proofs.find.find_pages.Goals as goal
 
 pub returns-then-not-size_holds : goal.returns-then-not-size_holds

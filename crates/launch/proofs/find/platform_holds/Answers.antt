@@ -5,7 +5,6 @@ use native.Mathlib.Omega.{arith}
 use Rattle.range.proofs.Ranges.{ends_exactly}
 use Rattle.rules.proofs.Tests.{fails, agrees, confirmed, refuted}
 use Rattle.launch.proofs.Conditions.{reserved_exactly, platform_exactly}
-use borrow.Author.Rules.{rules}
 use Rattle.launch.proofs.find.platform_holds.Goals as goal
 
 pub returns-then-p-ne0 : goal.returns-then-p-ne0

@@ -2,7 +2,6 @@
 use mathlib.Core.Path.{sym, ◌∙◌}
 use native.Mathlib.Omega.{arith}
 use borrow.Author.Tests.{eqb-true, eqb-false}
-use borrow.Author.Rules.{rules}
 use Rattle.field.proofs.Laws.{marked_at_lem}
 use Rattle.rules.proofs.Tests.{fails, agrees, confirmed, refuted, each}
 use Rattle.mle.specs.Header.{entry_point, field_tests}

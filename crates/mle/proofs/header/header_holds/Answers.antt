@@ -6,7 +6,6 @@ use mathlib.Core.Bool.{true≢false}
 use mathlib.Core.List.{List}
 use native.Mathlib.Nat.{add-sub_cancel_left}
 use native.Mathlib.Omega.{arith}
-use borrow.Author.Rules.{rules}
 use lib.ListN.{length, take, drop, length-take, length-drop}
 use Rattle.rules.proofs.Tests.{fails, agrees, confirmed, refuted, ◌&◌, each}
 use Rattle.mle.specs.declared.Image.{Image}

@@ -1,7 +1,6 @@
 -- `is_mapped` meets its contract: it compares with the first address of the range and with its end.
 use native.Mathlib.Omega.{arith}
 use borrow.Author.Tests.{ltb-true, ltb-false}
-use borrow.Author.Rules.{rules}
 use Rattle.rules.proofs.Tests.{fails, agrees}
 use Rattle.mle.proofs.Meaning.{mapped_exactly}
 use Rattle.mle.proofs.header.is_mapped.Goals as goal

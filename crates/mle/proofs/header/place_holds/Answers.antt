@@ -1,7 +1,6 @@
 -- `place_holds` meets its contract: its tests are those of the rule.
 use native.Mathlib.Omega.{arith}
 use borrow.Author.Tests.{leb-true, leb-false}
-use borrow.Author.Rules.{rules}
 use Rattle.rules.proofs.Tests.{fails, agrees, confirmed, refuted}
 use Rattle.mle.proofs.Meaning.{mapped_exactly, place_exactly}
 use Rattle.mle.proofs.header.place_holds.Goals as goal

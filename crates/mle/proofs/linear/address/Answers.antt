@@ -1,5 +1,4 @@
 -- `address` meets its contract: it takes the address out of the page-table entry.
-use borrow.Author.Rules.{rules}
 use Rattle.mle.specs.Image.{address_at}
 use Rattle.mle.proofs.linear.address.Goals as goal
 

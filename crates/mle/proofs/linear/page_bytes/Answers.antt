@@ -1,12 +1,11 @@
 -- `page_bytes` meets its contract: a page inside the window ends within it.
 use Prim.Native.Nat.{ℕ, ◌+◌, ◌-◌}
 use mathlib.Core.Path.{◌≡◌, sym, ◌∙◌}
-use mathlib.Core.Bool.{Bool, true, false, not}
+use mathlib.Core.Bool.{Bool, true, false}
 use mathlib.Core.List.{List, []}
 use native.Mathlib.Nat.{add-sub_cancel_left}
 use native.Mathlib.Omega.{arith}
 use borrow.Author.Rules.{rules}
-use borrow.Author.Tests.{not-true}
 use lib.ListN.{take, drop}
 use Rattle.range.specs.Range.{inside_of, page_size}
 use Rattle.range.proofs.Ranges.{inside_bounds}

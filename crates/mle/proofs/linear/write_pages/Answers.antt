@@ -1,10 +1,10 @@
 -- The places before the one that the loop has come to hold addresses, and the others are as they were.
-use Prim.Native.Nat.{ℕ, ◌-◌, ◌≤◌}
+use Prim.Native.Nat.{ℕ}
 use mathlib.Core.Path.{◌≡◌, sym, ◌∙◌, ap}
 use mathlib.Core.List.{◌++◌}
 use native.Mathlib.Omega.{arith}
 use borrow.Author.Rules.{rules}
-use lib.ListN.{length, drop, length-set}
+use lib.ListN.{drop, length-set}
 use Rattle.mle.specs.Image.{addresses_from}
 use Rattle.mle.proofs.Pages.{addresses_nothing, addresses_set, page_list_written, page_list_short}
 use Rattle.mle.proofs.linear.write_pages.Goals as goal

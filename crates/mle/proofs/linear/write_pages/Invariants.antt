@@ -1,11 +1,8 @@
-use Prim.Native.Nat.{ℕ, ◌-◌, ◌≤◌}
-use mathlib.Core.Path.{◌≡◌, sym, ◌∙◌, ap}
+use Prim.Native.Nat.{◌-◌, ◌≤◌}
+use mathlib.Core.Path.{◌≡◌}
 use mathlib.Core.List.{◌++◌}
-use native.Mathlib.Omega.{arith}
-use borrow.Author.Rules.{rules}
-use lib.ListN.{length, drop, length-set}
+use lib.ListN.{length, drop}
 use Rattle.mle.specs.Image.{addresses_from}
-use Rattle.mle.proofs.Pages.{addresses_nothing, addresses_set, page_list_written, page_list_short}
 use Rattle.mle.proofs.linear.write_pages.Given as goal
 
 abbrev pub invariant-loop-k : goal.invariant-loop-k

@@ -6,7 +6,6 @@ use borrow.Author.Tests.{eq-eqb, ne_eqb}
 use lib.Bits.{and_mask}
 use Rattle.pages.specs.Entry.{reserved_clear}
 use Rattle.pages.proofs.Tests.{high_set}
-use borrow.Author.Rules.{rules}
 use Rattle.pages.proofs.entry.reserved_clear.Goals as goal
 
 pub returns-then-e-ne0 : goal.returns-then-e-ne0

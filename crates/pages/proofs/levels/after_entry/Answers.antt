@@ -1,5 +1,4 @@
 -- `after_entry` meets its contract: each kind has its own count.
-use borrow.Author.Rules.{rules}
 use Rattle.pages.proofs.levels.after_entry.Goals as goal
 
 pub with_table-requires : goal.with_table-requires

@@ -1,5 +1,4 @@
 -- `base_fault` meets its contract: the numbers of its rules, from the last to the first.
-use borrow.Author.Rules.{rules}
 use Rattle.pages.proofs.levels.base_fault.Goals as goal
 
 pub returns : goal.returns

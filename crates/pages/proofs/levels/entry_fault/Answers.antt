@@ -1,5 +1,4 @@
 -- `entry_fault` meets its contract: it tries the rules in their order.
-use borrow.Author.Tests.{not-false, ltb-true}
 use Rattle.rules.proofs.Tests.{stop, pass}
 use Rattle.pages.proofs.Tried.{address_below}
 use borrow.Author.Rules.{rules}

@@ -1,6 +1,5 @@
 -- `level` meets its contract: each kind has its number of entries.
 use Rattle.pages.specs.Tables.{found_in}
-use borrow.Author.Rules.{rules}
 use Rattle.pages.proofs.levels.level.Goals as goal
 
 pub returns-in-Pointer : goal.returns-in-Pointer

@@ -6,7 +6,6 @@ use Rattle.rules.specs.Tests.{any}
 use Rattle.pages.specs.Memory.{memory_of, regions, protected}
 use Rattle.pages.specs.Inner.{common_of}
 use Rattle.pages.proofs.Kept.{protected_is}
-use borrow.Author.Rules.{rules}
 use Rattle.pages.proofs.levels.own_fault.Goals as goal
 
 pub returns-in-Pointer : goal.returns-in-Pointer

@@ -1,11 +1,9 @@
 -- `pages` meets its contract: after d turns the pages of the first d directory entries were tried.
-use Prim.Native.Nat.{◌*◌, ◌-◌, ◌≤◌}
+use Prim.Native.Nat.{◌*◌}
 use mathlib.Core.Path.{◌≡◌}
 use native.Mathlib.Omega.{arith}
-use Rattle.pages.specs.declared.Kind.TheVariants.{Directory, Page}
-use Rattle.pages.specs.Memory.{window_of, memory_of}
-use Rattle.pages.specs.Tables.{entries, entry_at, level_size, found_from, found_in}
-use Rattle.pages.specs.Inner.{Tried}
+use Rattle.pages.specs.declared.Kind.TheVariants.{Page}
+use Rattle.pages.specs.Tables.{entries, level_size, found_from, found_in}
 use Rattle.pages.proofs.Tried.{tried_none, table_more}
 use borrow.Author.Rules.{rules}
 use Rattle.pages.proofs.levels.pages.Goals as goal

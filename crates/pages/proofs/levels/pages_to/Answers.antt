@@ -1,7 +1,6 @@
 -- `pages_to` meets its contract: the range begins with the first page, which is at a where there is none before it.
 use native.Mathlib.Omega.{arith}
 use borrow.Author.Tests.{eq-eqb, ne_eqb}
-use borrow.Author.Rules.{rules}
 use Rattle.pages.proofs.levels.pages_to.Goals as goal
 use Rattle.pages.proofs.levels.pages_to.Goals.{then-p-eq0, else-p-eq0}
 
@@ -13,6 +12,6 @@ overflow_sub-result c =
 pub returns : goal.returns
 returns c =
     elim c.if-p-eq0.branch [
-      then-p-eq0 w ↦ simp (w.base-is, eq-eqb _ 0 w.if-p-eq0.true)
+      | then-p-eq0 w ↦ simp (w.base-is, eq-eqb _ 0 w.if-p-eq0.true)
       | else-p-eq0 w ↦ simp (w.base-is, ne_eqb _ 0 w.if-p-eq0.false)
     ]

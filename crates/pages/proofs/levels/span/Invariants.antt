@@ -1,11 +1,7 @@
 use Prim.Native.Nat.{◌-◌, ◌≤◌}
-use mathlib.Core.Path.{◌≡◌}
-use native.Mathlib.Omega.{arith}
 use Rattle.pages.specs.Memory.{window_of, memory_of}
 use Rattle.pages.specs.Tables.{entry_at, found_from}
 use Rattle.pages.specs.Inner.{Tried}
-use Rattle.pages.proofs.Tried.{tried_none, span_more}
-use borrow.Author.Rules.{rules}
 use Rattle.pages.proofs.levels.span.Given as goal
 
 abbrev pub invariant-loop-i : goal.invariant-loop-i

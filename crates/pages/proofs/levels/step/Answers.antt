@@ -1,6 +1,5 @@
 -- `step` meets its contract: an entry that is absent changes nothing, one that breaks a rule gives its number, and any other is counted.
 use mathlib.Core.Path.{sym, ◌∙◌}
-use borrow.Author.Tests.{not-true, not-false}
 use Rattle.pages.proofs.Tried.{tried_refused, step_absent, step_fault, step_passed, above, room}
 use borrow.Author.Rules.{rules}
 use Rattle.pages.proofs.levels.step.Goals as goal

@@ -1,9 +1,7 @@
 -- `table` meets its contract: where the directory entry is absent, so is each of its pages.
 use mathlib.Core.Path.{sym, ap, ◌∙◌}
-use borrow.Author.Tests.{not-true}
 use Rattle.pages.specs.Entry.{present_of}
 use Rattle.pages.proofs.Tried.{tried_refused, table_skipped}
-use borrow.Author.Rules.{rules}
 use Rattle.pages.proofs.levels.table.Goals as goal
 
 pub returns-then-r-ne0 : goal.returns-then-r-ne0

@@ -1,5 +1,4 @@
 -- `table_fault` meets its contract: the numbers of its rules, from the last to the first.
-use borrow.Author.Rules.{rules}
 use Rattle.pages.proofs.levels.table_fault.Goals as goal
 
 pub returns : goal.returns

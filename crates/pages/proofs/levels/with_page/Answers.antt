@@ -4,7 +4,6 @@ use mathlib.Core.Bool.{cond}
 use borrow.Author.Tests.{eq-eqb, ne_eqb}
 use lib.Dec.{eqb}
 use Rattle.pages.proofs.Kept.{leads_page}
-use borrow.Author.Rules.{rules}
 use Rattle.pages.proofs.levels.with_page.Goals as goal
 use Rattle.pages.proofs.levels.with_page.Goals.{then-p-eq0, else-p-eq0}
 
@@ -13,7 +12,7 @@ returns c =
     let p = c.args.p in
     let first : c.if-p-eq0.first ≡ cond (eqb p.count 0) c.args.l p.first =
     elim c.if-p-eq0.branch [
-      then-p-eq0 w ↦ simp (w.first-is, eq-eqb _ 0 w.if-p-eq0.true)
+      | then-p-eq0 w ↦ simp (w.first-is, eq-eqb _ 0 w.if-p-eq0.true)
       | else-p-eq0 w ↦ simp (w.first-is, ne_eqb _ 0 w.if-p-eq0.false)
     ] in
     rw c.pages_to-pages.ensures (leads_page p c.args.a c.requires.0 c.args.l _ first)

@@ -1,7 +1,6 @@
 -- `is_allowed` meets its contract: it tries the forbidden ranges in their order.
 use Rattle.pages.specs.Memory.{allowed}
 use Rattle.pages.proofs.Tests.{by_every, decided, left_to}
-use borrow.Author.Rules.{rules}
 use Rattle.pages.proofs.placement.is_allowed.Goals as goal
 
 pub returns-then-clear-3 : goal.returns-then-clear-3

@@ -1,6 +1,5 @@
 -- `is_protected` meets its contract: it tries the regions in their order.
 use Rattle.pages.proofs.Tests.{by_some, decided, left_to, last}
-use borrow.Author.Rules.{rules}
 use Rattle.pages.proofs.placement.is_protected.Goals as goal
 
 pub returns-then-inside : goal.returns-then-inside

@@ -1,6 +1,5 @@
 -- `is_table_protected` meets its contract: a table is one page of memory.
 use Rattle.pages.specs.Memory.{protected}
-use borrow.Author.Rules.{rules}
 use Rattle.pages.proofs.placement.is_table_protected.Goals as goal
 
 pub returns : goal.returns

@@ -1,6 +1,5 @@
 -- `directory` meets its contract: quotient and remainder of the number give the pointer entry and the index.
 use Rattle.pages.specs.Tables.{directory_at}
-use borrow.Author.Rules.{rules}
 use Rattle.pages.proofs.tables.directory.Goals as goal
 
 pub returns : goal.returns

@@ -1,5 +1,4 @@
 -- `entry` meets its contract: each kind has its level.
-use borrow.Author.Rules.{rules}
 use Rattle.pages.proofs.tables.entry.Goals as goal
 
 pub returns-in-Pointer : goal.returns-in-Pointer

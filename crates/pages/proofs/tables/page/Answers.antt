@@ -1,6 +1,5 @@
 -- `page` meets its contract: quotient and remainder of the number give the directory entry and the index.
 use Rattle.pages.specs.Tables.{page_at}
-use borrow.Author.Rules.{rules}
 use Rattle.pages.proofs.tables.page.Goals as goal
 
 pub returns : goal.returns

@@ -1,6 +1,5 @@
 -- `pointer` meets its contract: the pointer table is at the table base.
 use Rattle.pages.specs.Tables.{pointer_at}
-use borrow.Author.Rules.{rules}
 use Rattle.pages.proofs.tables.pointer.Goals as goal
 
 pub returns : goal.returns

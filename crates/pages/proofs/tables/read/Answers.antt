@@ -1,10 +1,8 @@
 -- `read` meets its contract: an entry of a table inside the window is a number of 8 bytes there.
 use mathlib.Core.Path.{sym, ◌∙◌}
 use native.Mathlib.Omega.{arith}
-use borrow.Author.Tests.{not-true, not-false}
 use Rattle.range.proofs.Ranges.{inside_bounds}
 use Rattle.pages.proofs.Tests.{read_past, read_outside, read_inside}
-use borrow.Author.Rules.{rules}
 use Rattle.pages.proofs.tables.read.Goals as goal
 
 pub returns-then-n-i : goal.returns-then-n-i

@@ -1,7 +1,6 @@
 -- `under` meets its contract: it reads the table that a present entry names.
 use mathlib.Core.Path.{sym, ◌∙◌}
 use Rattle.pages.specs.Tables.{under_of}
-use borrow.Author.Rules.{rules}
 use Rattle.pages.proofs.tables.under.Goals as goal
 
 pub returns-then-present : goal.returns-then-present

@@ -1,10 +1,6 @@
 -- `all_meet` meets its contract: what is left to test gives what all ranges give.
-use Prim.Native.Nat.{◌-◌}
 use native.Mathlib.Omega.{arith}
-use lib.ListN.{length}
-use Rattle.range.specs.Pairs.{meets_of}
-use Rattle.range.proofs.EachRange.{Left, start, fails, onward, ended}
-use borrow.Author.Rules.{rules}
+use Rattle.range.proofs.EachRange.{start, fails, onward, ended}
 use Rattle.range.proofs.pairs.all_meet.Goals as goal
 
 pub loop-i-init : goal.loop-i-init

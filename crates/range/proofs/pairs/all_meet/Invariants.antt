@@ -1,9 +1,7 @@
 use Prim.Native.Nat.{◌-◌}
-use native.Mathlib.Omega.{arith}
 use lib.ListN.{length}
 use Rattle.range.specs.Pairs.{meets_of}
-use Rattle.range.proofs.EachRange.{Left, start, fails, onward, ended}
-use borrow.Author.Rules.{rules}
+use Rattle.range.proofs.EachRange.{Left}
 use Rattle.range.proofs.pairs.all_meet.Given as goal
 
 abbrev pub invariant-loop-i : goal.invariant-loop-i

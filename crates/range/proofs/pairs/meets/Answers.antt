@@ -1,8 +1,4 @@
 -- `meets` meets its contract: each condition has its test.
-use mathlib.Core.Path.{sym, ap, ◌∙◌}
-use Rattle.range.specs.declared.pairs.Condition.{Condition}
-use Rattle.range.specs.Pairs.{meets_of}
-use borrow.Author.Rules.{rules}
 use Rattle.range.proofs.pairs.meets.Goals as goal
 
 pub returns-in-ClearOf : goal.returns-in-ClearOf

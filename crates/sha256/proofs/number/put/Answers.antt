@@ -1,5 +1,5 @@
 -- The loop writes one byte of the number more at each turn: the highest k bytes are in their place.
-use Rattle.std.proofs.Common.{◌≡◌, ◌-◌, ◌≤◌, length, sym, refl, ap, ◌∙◌, arith, length-set, rules}
+use Rattle.std.proofs.Common.{◌≡◌, sym, refl, ap, ◌∙◌, arith, length-set}
 use lib.Seq.{paste, paste-zero}
 use Rattle.sha256.specs.Message.{big_endian}
 use Rattle.sha256.proofs.Fill.{fill_step}

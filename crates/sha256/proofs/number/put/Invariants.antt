@@ -1,8 +1,6 @@
-use Rattle.std.proofs.Common.{◌≡◌, ◌-◌, ◌≤◌, length, sym, refl, ap, ◌∙◌, arith, length-set, rules}
-use lib.Seq.{paste, paste-zero}
+use Rattle.std.proofs.Common.{◌≡◌, ◌-◌, ◌≤◌, length}
+use lib.Seq.{paste}
 use Rattle.sha256.specs.Message.{big_endian}
-use Rattle.sha256.proofs.Fill.{fill_step}
-use Rattle.sha256.proofs.BigEndian.{length_big, get_d_big}
 use Rattle.sha256.proofs.number.put.Given as goal
 
 abbrev pub invariant-loop-k : goal.invariant-loop-k

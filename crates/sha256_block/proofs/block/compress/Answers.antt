@@ -1,8 +1,8 @@
 -- The loop runs sixteen rounds at a time; the sum follows.
-use Rattle.std.proofs.Common.{◌≡◌, ℕ, ◌-◌, ◌%◌, ◌≤◌, length, take, drop, refl, ap, ◌∙◌, arith, length-drop, length-take-le, rules}
+use Rattle.std.proofs.Common.{◌≡◌, ℕ, length, take, drop, refl, ap, ◌∙◌, arith, length-drop, length-take-le}
 use Rattle.sha256_block.specs.declared.block.Working.{Working}
 use Rattle.sha256_block.specs.Block.{words_of, variables, sum_of}
-use Rattle.sha256_block.specs.Schedule.{rounds_held, compress_held, Before}
+use Rattle.sha256_block.specs.Schedule.{rounds_held, compress_held}
 use Rattle.sha256_block.proofs.BlockWords.{length_words, lent}
 use Rattle.sha256_block.proofs.Schedule.{none_before, sixteen_more}
 use Rattle.sha256_block.proofs.block.compress.Goals as goal

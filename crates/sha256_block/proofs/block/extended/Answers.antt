@@ -1,5 +1,4 @@
 -- The sum of four words, in the order of FIPS 180-4.
-use Rattle.std.proofs.Common.{rules}
 use Rattle.sha256_block.proofs.block.extended.Goals as goal
 
 pub returns : goal.returns

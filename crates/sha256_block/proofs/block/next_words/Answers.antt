@@ -1,5 +1,5 @@
 -- Each word is the next of the schedule, and takes the place of the one that is used up.
-use Rattle.std.proofs.Common.{sym, rules}
+use Rattle.std.proofs.Common.{sym}
 use Rattle.sha256_block.proofs.Schedule.{none, renew}
 use Rattle.sha256_block.proofs.block.next_words.Goals as goal
 

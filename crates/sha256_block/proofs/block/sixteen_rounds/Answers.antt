@@ -1,7 +1,6 @@
 -- One round after the other.
 use Rattle.sha256_block.specs.Schedule.{list_of}
 use Rattle.sha256_block.proofs.Schedule.{no_round, one_more}
-use Rattle.std.proofs.Common.{rules}
 use Rattle.sha256_block.proofs.block.sixteen_rounds.Goals as goal
 
 pub returns : goal.returns

@@ -1,5 +1,4 @@
 -- The hash value of the block before and the working variables, word by word.
-use Rattle.std.proofs.Common.{rules}
 use Rattle.sha256_block.proofs.block.sum.Goals as goal
 
 pub returns : goal.returns

@@ -1,5 +1,5 @@
 -- The word of the four bytes at the place.
-use Rattle.std.proofs.Common.{sym, ◌∙◌, rules}
+use Rattle.std.proofs.Common.{sym, ◌∙◌}
 use Rattle.sha256_block.proofs.BlockWords.{word_at}
 use Rattle.sha256_block.proofs.block.word_at.Goals as goal
 

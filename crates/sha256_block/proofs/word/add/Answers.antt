@@ -1,6 +1,5 @@
 -- The sum of two words is the supplied sum that wraps.
 use Rattle.sha256_block.specs.Words.{◌⊞◌}
-use Rattle.std.proofs.Common.{rules}
 use Rattle.sha256_block.proofs.word.add.Goals as goal
 
 pub returns : goal.returns

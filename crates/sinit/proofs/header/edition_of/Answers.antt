@@ -1,5 +1,4 @@
 -- `edition_of` meets its contract: the version picks the row.
-use borrow.Author.Rules.{rules}
 use Rattle.sinit.proofs.header.edition_of.Goals as goal
 
 pub returns : goal.returns

@@ -1,7 +1,6 @@
 -- `entry_holds` meets its contract: its tests are those of the rule.
 use native.Mathlib.Omega.{arith}
 use borrow.Author.Tests.{ltb-true, ltb-false}
-use borrow.Author.Rules.{rules}
 use Rattle.sinit.proofs.Conditions.{entry_exactly}
 use Rattle.rules.proofs.Tests.{fails, agrees}
 use Rattle.sinit.proofs.header.entry_holds.Goals as goal

@@ -1,7 +1,6 @@
 -- `gdt_holds` meets its contract: its tests, which form no sum, are those of the rule.
 use native.Mathlib.Omega.{arith}
 use borrow.Author.Tests.{ltb-true, ltb-false}
-use borrow.Author.Rules.{rules}
 use Rattle.sinit.proofs.Conditions.{gdt_exactly}
 use Rattle.rules.proofs.Tests.{fails, agrees}
 use Rattle.sinit.proofs.header.gdt_holds.Goals as goal

@@ -1,7 +1,6 @@
 -- `header_holds` meets its contract: its tests are those of the rule. The size is below 2^32, so 4 times the size fits.
 use native.Mathlib.Omega.{arith}
 use borrow.Author.Tests.{eqb-true, eqb-false}
-use borrow.Author.Rules.{rules}
 use Rattle.sinit.proofs.Conditions.{header_exactly}
 use Rattle.rules.proofs.Tests.{fails, agrees}
 use Rattle.sinit.proofs.Editions.{alike}

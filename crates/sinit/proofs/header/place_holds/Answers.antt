@@ -2,7 +2,6 @@
 use mathlib.Core.Path.{sym, ◌∙◌}
 use mathlib.Core.Bool.{true≢false}
 use native.Mathlib.Omega.{arith}
-use borrow.Author.Rules.{rules}
 use Rattle.range.proofs.Ranges.{ends_exactly}
 use Rattle.sinit.proofs.Conditions.{place_exactly}
 use Rattle.rules.proofs.Tests.{fails, agrees}

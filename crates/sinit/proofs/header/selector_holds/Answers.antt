@@ -1,7 +1,6 @@
 -- `selector_holds` meets its contract: its tests, which form no sum, are those of the rule.
 use native.Mathlib.Omega.{arith}
 use borrow.Author.Tests.{leb-true, leb-false}
-use borrow.Author.Rules.{rules}
 use Rattle.sinit.proofs.Conditions.{selector_exactly}
 use Rattle.rules.proofs.Tests.{fails, agrees}
 use Rattle.sinit.proofs.header.selector_holds.Goals as goal

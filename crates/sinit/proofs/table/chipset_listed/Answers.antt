@@ -1,12 +1,9 @@
 -- `chipset_listed` meets its contract. The loop's invariant: no entry that was passed matches.
-use Prim.Native.Nat.{ℕ, ◌-◌, ◌≤◌, ◌<◌}
 use mathlib.Core.Path.{sym, ◌∙◌}
 use mathlib.Core.Bool.{true≢false}
 use native.Mathlib.Omega.{arith}
 use borrow.Author.Count.{below_more}
 use borrow.Author.Rules.{rules}
-use Rattle.sinit.specs.Module.{entry_at}
-use Rattle.sinit.specs.Meaning.{Matches}
 use Rattle.sinit.proofs.Conditions.{match_exactly, listed_exactly}
 use Rattle.rules.proofs.Tests.{fails, holds}
 use Rattle.sinit.proofs.table.chipset_listed.Goals as goal

@@ -1,13 +1,6 @@
 use Prim.Native.Nat.{ℕ, ◌-◌, ◌≤◌, ◌<◌}
-use mathlib.Core.Path.{sym, ◌∙◌}
-use mathlib.Core.Bool.{true≢false}
-use native.Mathlib.Omega.{arith}
-use borrow.Author.Count.{below_more}
-use borrow.Author.Rules.{rules}
 use Rattle.sinit.specs.Module.{entry_at}
 use Rattle.sinit.specs.Meaning.{Matches}
-use Rattle.sinit.proofs.Conditions.{match_exactly, listed_exactly}
-use Rattle.rules.proofs.Tests.{fails, holds}
 use Rattle.sinit.proofs.table.chipset_listed.Given as goal
 
 abbrev pub invariant-loop-i : goal.invariant-loop-i

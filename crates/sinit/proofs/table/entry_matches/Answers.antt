@@ -2,7 +2,6 @@
 use mathlib.Core.Path.{sym, ◌∙◌}
 use mathlib.Core.Bool.{true≢false}
 use borrow.Author.Tests.{eq-eqb}
-use borrow.Author.Rules.{rules}
 use Rattle.sinit.specs.Rules.{match}
 use Rattle.sinit.proofs.Conditions.{match_exactly}
 use Rattle.rules.proofs.Tests.{fails, agrees, ◌&◌, each}

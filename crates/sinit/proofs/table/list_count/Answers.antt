@@ -1,5 +1,4 @@
 -- `list_count` meets its contract: the count stands at the offset that the table gives.
-use borrow.Author.Rules.{rules}
 use Rattle.sinit.proofs.table.list_count.Goals as goal
 
 pub returns : goal.returns

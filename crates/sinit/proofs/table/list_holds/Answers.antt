@@ -3,7 +3,6 @@ use mathlib.Core.Path.{sym, ◌∙◌}
 use mathlib.Core.Bool.{true≢false}
 use native.Mathlib.Omega.{arith}
 use borrow.Author.Tests.{le-leb}
-use borrow.Author.Rules.{rules}
 use Rattle.sinit.specs.Rules.{list}
 use Rattle.sinit.proofs.Conditions.{list_exactly}
 use Rattle.rules.proofs.Tests.{fails, agrees, confirmed, refuted, ◌&◌, each}

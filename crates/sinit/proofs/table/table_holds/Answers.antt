@@ -1,7 +1,6 @@
 -- `table_holds` meets its contract: its tests are those of the rule.
 use native.Mathlib.Omega.{arith}
 use borrow.Author.Tests.{leb-true, leb-false}
-use borrow.Author.Rules.{rules}
 use Rattle.field.proofs.Laws.{marked_at_lem}
 use Rattle.sinit.specs.Rules.{table}
 use Rattle.sinit.proofs.Conditions.{inside_exactly, table_exactly}

@@ -1,5 +1,4 @@
 -- `table_number` meets its contract: the table begins at E.
-use borrow.Author.Rules.{rules}
 use Rattle.sinit.proofs.table.table_number.Goals as goal
 
 pub returns : goal.returns

@@ -1,5 +1,4 @@
 -- `values` meets its contract: each number is read at its place.
-use borrow.Author.Rules.{rules}
 use Rattle.sinit.proofs.table.values.Goals as goal
 
 pub returns : goal.returns

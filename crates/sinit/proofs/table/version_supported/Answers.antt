@@ -1,6 +1,5 @@
 -- `version_supported` meets its contract: the number that it reads is the module's.
 use mathlib.Core.Path.{ap}
-use borrow.Author.Rules.{rules}
 use lib.Dec.{leb}
 use Rattle.sinit.specs.Rules.{supported}
 use Rattle.sinit.proofs.table.version_supported.Goals as goal

@@ -3,13 +3,13 @@ use Prim.Native.Nat.{ℕ, ◌+◌, ◌-◌, ◌≤◌, ◌<◌, ◌^◌}
 use native.Mathlib.Nat.{add-zero}
 use native.Mathlib.Omega.{arith}
 use mathlib.Core.Path.{◌≡◌, refl, ap, sym, ◌∙◌}
-use mathlib.Core.Bool.{Bool, true, false, cond, not, ◌&&◌, true≢false, false≢true}
+use mathlib.Core.Bool.{Bool, true, false, cond, ◌&&◌, true≢false, false≢true}
 use mathlib.Core.List.{List}
 use mathlib.Core.Option.{Option, some, none, map}
 use lib.ListN.{length, take, drop, get_or, length-drop}
 use lib.Seq.{get_or-drop, length-take-le}
 use lib.Dec.{leb}
-use borrow.Author.Tests.{le-leb, lt-leb, leb-true, lt-ltb, le-ltb, not-true, not-false}
+use borrow.Author.Tests.{le-leb, lt-leb, leb-true, lt-ltb, le-ltb}
 use mir.Val.{Fits}
 use mir.Syntax.{w8}
 use Rattle.field.specs.Number.{bytes}
@@ -31,28 +31,28 @@ module _ (type n : ℕ) (bodies : List ℕ) (from : ℕ) (t : Bool) (et : t ≡ 
   abbrev bs : List ℕ
   bs = drop from bodies
 
-  pub not_written : not t ≡ true → false ≡ element_given type n bs
+  pub not_written : t ≡ false → false ≡ element_given type n bs
   unfolding element_given
-  not_written h = rw (← et, not-true t h)
+  not_written h = rw (← et, h)
 
-  module _ (w : not t ≡ false) where
+  module _ (w : t ≡ true) where
     pub too_long : 0xFFFFFFFF < 12 + n → false ≡ element_given type n bs
     unfolding element_given
-    too_long h = rw (← et, not-false t w, le-ltb (12 + n) (256 ^ 4) (omega arith))
+    too_long h = rw (← et, w, le-ltb (12 + n) (256 ^ 4) (omega arith))
 
     module _ (s : 12 + n ≤ 0xFFFFFFFF) where
       pub not_there : length bodies - from < n → false ≡ element_given type n bs
       unfolding element_given
       not_there h =
           let l : length bs < n = rw length-drop h in
-          rw (← et, not-false t w, lt-ltb (12 + n) (256 ^ 4) (omega arith), lt-leb n (length bs) l)
+          rw (← et, w, lt-ltb (12 + n) (256 ^ 4) (omega arith), lt-leb n (length bs) l)
 
       pub filled : n ≤ length bodies - from → (r : Bool) → r ≡ is_some (value_of (filling (Layout.body type) (take (from + n - from) bs))) → r ≡ element_given type n bs
       unfolding element_given
       filled h r e =
           let l : n ≤ length bs = rw length-drop h in
           let i : from + n - from ≡ n = omega arith in
-          e ∙ rw (i, ← et, not-false t w, lt-ltb (12 + n) (256 ^ 4) (omega arith), le-leb n (length bs) l)
+          e ∙ rw (i, ← et, w, lt-ltb (12 + n) (256 ^ 4) (omega arith), le-leb n (length bs) l)
 
 -- ITS BYTES
 
@@ -94,10 +94,10 @@ module _ (ns bs : List ℕ) (c : Cursor) where
           go true true true none e = refl
           go true true true (some b) e = absurd (true≢false e)
 
-      pub element_not : not g ≡ true → Nothing ≡ next_of element c (part_at element ns bs c)
-      element_not q = rw (fields, refused (not-true g q))
+      pub element_not : g ≡ false → Nothing ≡ next_of element c (part_at element ns bs c)
+      element_not q = rw (fields, refused q)
 
-      module _ (w : not g ≡ false) (b : (i : ℕ) → Fits w8 (get_or bs i 0)) where
+      module _ (w : g ≡ true) (b : (i : ℕ) → Fits w8 (get_or bs i 0)) where
         abbrev body : List ℕ
         body = take n (drop c.bodies bs)
 
@@ -110,7 +110,7 @@ module _ (ns bs : List ℕ) (c : Cursor) where
 
         given : Given
         unfolding element_given
-        given = go (written_type t) (size_fits (12 + n)) (leb n (length (drop c.bodies bs))) (value_of (filling (Layout.body t) body)) refl refl refl refl (sym eg ∙ not-false g w)
+        given = go (written_type t) (size_fits (12 + n)) (leb n (length (drop c.bodies bs))) (value_of (filling (Layout.body t) body)) refl refl refl refl (sym eg ∙ w)
           where
             go : (x y z : Bool) (o : Option Body) → written_type t ≡ x → size_fits (12 + n) ≡ y → leb n (length (drop c.bodies bs)) ≡ z → value_of (filling (Layout.body t) body) ≡ o → (x && (y && (z && is_some o))) ≡ true → Given
             go false y z o ex ey ez eo e = absurd (false≢true e)

@@ -3,13 +3,12 @@ use Prim.Native.Nat.{ℕ, ◌+◌, ◌-◌, ◌≤◌, ◌<◌}
 use native.Mathlib.Nat.{add-zero}
 use native.Mathlib.Omega.{arith}
 use mathlib.Core.Path.{◌≡◌, refl, ap, sym, ◌∙◌}
-use mathlib.Core.Bool.{Bool, true, false, cond, not}
+use mathlib.Core.Bool.{Bool, true, false, cond}
 use mathlib.Core.List.{List, ◌++◌, flat_map, append_assoc, append-nil}
 use mathlib.Core.Option.{Option, some, none}
 use lib.ListN.{length, drop, get_or, length-append, length-drop}
 use lib.Seq.{get_or-drop, drop-drop}
-use borrow.Author.Tests.{le-leb, lt-leb, not-true, not-false}
-use Rattle.field.specs.Number.{bytes}
+use borrow.Author.Tests.{le-leb, lt-leb}
 use Rattle.field.proofs.Laws.{length_bytes}
 use Rattle.policy_grammar.specs.Grammar.{Element, element_bytes, PolicyList, list_bytes}
 use Rattle.policy_grammar.specs.Layout.{known_version}
@@ -49,8 +48,8 @@ module _ (ns bs : List ℕ) (c : Cursor) where
     fields =
         rw (le-leb 2 (length (drop c.numbers ns)) (rw length-drop h), get_or-drop c.numbers ns 0 0, get_or-drop c.numbers ns 1 0, add-zero, ← ev, ← en, ← eg, drop-drop 2 c.numbers ns)
 
-    pub list_unknown : not g ≡ true → Nothing ≡ next_of list c (part_at list ns bs c)
-    list_unknown q = rw (fields, not-true g q)
+    pub list_unknown : g ≡ false → Nothing ≡ next_of list c (part_at list ns bs c)
+    list_unknown q = rw (fields, q)
 
     -- behind the elements of a list the list ends
     ends : (es : List Element) → (behind (times n element) start es).bytes - start.bytes ≡ length (flat_map element_bytes es)
@@ -66,9 +65,9 @@ module _ (ns bs : List ℕ) (c : Cursor) where
             cursor _ _ _ _ _ _ (omega arith) (omega arith)
             (omega (arith, ap length (list_bytes_lem v es), length-append (list_head v (length (flat_map element_bytes es))) (flat_map element_bytes es), head_length v (length (flat_map element_bytes es))))
 
-    module _ (w : not g ≡ false) (r : Next) (er : r ≡ up_to start (next_of (times n element) start elements)) where
+    module _ (w : g ≡ true) (r : Next) (er : r ≡ up_to start (next_of (times n element) start elements)) where
       known : part_at list ns bs c ≡ and_then elements (sized_list v)
-      known = fields ∙ rw (not-false g w)
+      known = fields ∙ rw w
 
       pub list_next : (x : Next) → r ≡ x → x ≡ next_of list c (part_at list ns bs c)
       list_next x q = sym q ∙ er ∙ list_ends elements ∙ ap (next_of list c) (sym known)

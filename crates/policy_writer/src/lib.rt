@@ -2,6 +2,8 @@
 //
 // A description is numbers and bodies. The numbers are how many lists there are; of each list its version and how many elements it has; of each of its
 // elements the type, the control and the length of its body. The bodies stand one behind the other.
+#![tactic(auto)]
+
 use decision::POLICY_HASH;
 use policy_reader::LARGEST_FILE;
 

@@ -6,7 +6,7 @@ use native.Mathlib.Numerals.{add-one}
 use native.Mathlib.Omega.{arith}
 use lib.ListN.{length, take, drop, set, get_or, length-set, drop_of_length-le}
 use lib.Seq.{drop-cons, set_split, take-suc-set}
-use Rattle.io.specs.Digits.{hex_digit_ascii}
+use Rattle.fips_vectors.specs.Digits.{hex_digit_ascii}
 use Rattle.fips_vectors.specs.Line.{line_of}
 
 -- the digits of the first i bytes stand in the text

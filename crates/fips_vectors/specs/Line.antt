@@ -1,6 +1,6 @@
 -- A digest as a line of text.
 use Rattle.std.specs.Prelude.{ℕ, List, [], ◌∷◌, ◌++◌}
-use Rattle.io.specs.Digits.{last_digits}
+use Rattle.fips_vectors.specs.Digits.{last_digits}
 
 -- two hexadecimal digits for each byte, and the line feed
 unfoldable pub line_of : List ℕ → List ℕ

@@ -1,8 +1,12 @@
 // Prints SHA-256 digests, one a line: of the example messages of FIPS 180-4 and the empty message, of the first 0 to 200
 // bytes of a pattern, and of the whole pattern, absorbed in parts of several sizes.
+#![tactic(auto)]
+
 ghost use Rattle.std.specs.Prelude.{◌≡◌, ◌+◌, ◌%◌, ◌<◌, ◌≤◌, length};
-ghost use Rattle.io.specs.Digits.{hex_digit_ascii};
+ghost use Rattle.fips_vectors.specs.Digits.{hex_digit_ascii};
 ghost use Rattle.fips_vectors.specs.Line.{line_of};
+
+use std::io;
 
 // The hexadecimal digit of the low half of a byte.
 fn digit(b: u8) -> u8
@@ -30,13 +34,12 @@ fn line(digest: [u8; 32]) -> [u8; 65]
     text
 }
 
-fn print(digest: [u8; 32]) {
-    let text = line(digest);
-    io::write_all(1, &text);
+fn print(rt: &impl Print, digest: [u8; 32]) -> io::Result<()> {
+    rt.write_all(&line(digest))
 }
 
-fn print_digest(m: &[u8]) {
-    print(sha256::digest(m));
+fn print_digest(rt: &impl Print, m: &[u8]) -> io::Result<()> {
+    print(rt, sha256::digest(m))
 }
 
 // The digest of one million times the letter a, in a thousand parts.
@@ -52,14 +55,18 @@ fn million() -> [u8; 32] {
     sha256::finish(s)
 }
 
-fn print_examples() {
-    print_digest(b"abc");
-    print_digest(b"abcdbcdecdefdefgefghfghighijhijkijkljklmklmnlmnomnopnopq");
+fn print_examples(rt: &impl Print) -> io::Result<()> {
+    print_digest(rt, b"abc")?;
     print_digest(
+        rt,
+        b"abcdbcdecdefdefgefghfghighijhijkijkljklmklmnlmnomnopnopq",
+    )?;
+    print_digest(
+        rt,
         b"abcdefghbcdefghicdefghijdefghijkefghijklfghijklmghijklmnhijklmnoijklmnopjklmnopqklmnopqrlmnopqrsmnopqrstnopqrstu",
-    );
-    print(million());
-    print_digest(b"");
+    )?;
+    print(rt, million())?;
+    print_digest(rt, b"")
 }
 
 // The pattern: byte i is 7 * i + 3 modulo 256. It is as long as parts of 0, 1, 2, .., 199 bytes together.
@@ -74,14 +81,15 @@ fn pattern() -> [u8; 19900] {
 }
 
 // The digests of the first 0, 1, 2, .., 200 bytes of m.
-fn print_lengths(m: &[u8])
+fn print_lengths(rt: &impl Print, m: &[u8]) -> io::Result<()>
     requires { 200 ≤ length m.now }
 {
     let mut n = 0;
     while n <= 200 {
-        print_digest(&m[..n]);
+        print_digest(rt, &m[..n])?;
         n += 1;
     }
+    Ok(())
 }
 
 // The digest of m, absorbed in parts of first, first + more, first + 2 * more, .. bytes, of which the last may be shorter.
@@ -104,17 +112,17 @@ fn in_parts(m: &[u8], first: usize, more: usize) -> [u8; 32]
 
 // The whole of m in five ways, which print the same line: in parts of 0, 1, 2, .. bytes, in one part, and in parts of 64, 63
 // and 65 bytes.
-fn print_parts(m: &[u8]) {
-    print(in_parts(m, 0, 1));
-    print_digest(m);
-    print(in_parts(m, 64, 0));
-    print(in_parts(m, 63, 0));
-    print(in_parts(m, 65, 0));
+fn print_parts(rt: &impl Print, m: &[u8]) -> io::Result<()> {
+    print(rt, in_parts(m, 0, 1))?;
+    print_digest(rt, m)?;
+    print(rt, in_parts(m, 64, 0))?;
+    print(rt, in_parts(m, 63, 0))?;
+    print(rt, in_parts(m, 65, 0))
 }
 
-fn main() {
-    print_examples();
+fn main(rt: HostRuntime) -> io::Result<()> {
+    print_examples(&rt)?;
     let m = pattern();
-    print_lengths(&m);
-    print_parts(&m);
+    print_lengths(&rt, &m)?;
+    print_parts(&rt, &m)
 }

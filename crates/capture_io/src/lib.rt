@@ -1,20 +1,64 @@
-// Reading a capture from a descriptor into a buffer that the caller lends. What the bytes are is the operating system's; what is answered for them is
-// said by the contracts of `capture`.
-ghost use Rattle.io.specs.Counts.{IsPrefixLen};
+// Input for the programs: bytes that are read into a buffer that the caller lends, and files by name. What the bytes are is the operating system's; what is
+// answered for a capture is said by the contracts of `capture`.
+#![tactic(auto)]
+
+ghost use Rattle.std.specs.Counts.{IsPrefixLen};
+
+use std::alloc::Global;
+use std::io::Read;
+use std::rt::Files;
+use std::{fs, io, str};
+
+// Reads until the buffer is full, the input ends or a read fails: how many bytes stand at the front of the buffer. A read that a signal interrupts
+// counts as one that failed.
+pub fn read_full(input: &mut impl Read, buffer: &mut [u8]) -> usize
+    ensures { IsPrefixLen result buffer.new }
+{
+    let mut done = 0;
+    while done < buffer.len() {
+        let n = input.read(&mut buffer[done..]).unwrap_or(0);
+        if n == 0 {
+            break;
+        }
+        done += n;
+    }
+    done
+}
 
 // Whether the input ends here. Where reading fails, that is not known, and it counts as no end.
-fn ended(fd: i32) -> bool {
+fn ended(input: &mut impl Read) -> bool {
     let mut next = [0u8; 1];
-    libc::read(fd, &mut next) == 0
+    matches!(input.read(&mut next), Ok(0))
 }
 
 // How many bytes at the front of the buffer are the whole input; 0, and so no capture, where the input was not read to its end.
-pub fn read_whole(fd: i32, buffer: &mut [u8]) -> usize
+pub fn read_whole(input: &mut impl Read, buffer: &mut [u8]) -> usize
     ensures { IsPrefixLen result buffer.new }
 {
-    let n = io::read_full(fd, buffer);
-    if !ended(fd) {
-        return 0;
+    let n = read_full(input, buffer);
+    if ended(input) { n } else { 0 }
+}
+
+// The file of a name, opened for reading. The paths of std are text, so a name that is not names no file.
+pub fn open<R: Files>(rt: &R, name: &[u8]) -> io::Result<R::File> {
+    match str::from_utf8(name) {
+        Ok(path) => fs::open(rt, path),
+        Err(_) => Err(io::Error::new(io::ErrorKind::InvalidFilename, "Not a name in UTF-8")),
     }
-    n
+}
+
+// The system's words for an error, without the number that std puts behind them.
+fn words(text: &str) -> &str {
+    match text.find(" (os error ") {
+        Some(end) => &text[..end],
+        None => text,
+    }
+}
+
+// Writes a line to standard error, where `errors` leads: what could not be read, a colon, and why.
+pub fn say_why(errors: &impl Print, alloc: Global, name: &[u8], why: &io::Error) -> io::Result<()> {
+    let text = format!(in alloc; "{why}")?;
+    let why = words(text.as_str());
+    errors.write_all(name)?;
+    println!(errors; ": {why}")
 }

@@ -1,42 +1,56 @@
 // The answers for stored captures: for each file that the arguments name a line with the name, and then the output of the check for it.
-use libc::STDOUT_FILENO;
+#![tactic(auto)]
+
+use std::io;
+use std::rt::{Env, Files};
 
 // At most so many captures are tried.
 const MOST: usize = 1000;
 
+// The most bytes of an argument that is tried: as many as a path has.
+const NAME: usize = 4096;
+
 // The output for the capture of a name.
-fn stored(path: &[u8]) {
-    let fd = os::open_read(path);
-    if fd < 0 {
-        os::fail(path);
-        return;
-    }
+fn stored<R: Files + Print + AllocGlobal>(
+    rt: &R,
+    errors: &impl Print,
+    name: &[u8],
+) -> io::Result<()> {
+    let mut file = match capture_io::open(rt, name) {
+        Ok(file) => file,
+        Err(why) => return capture_io::say_why(errors, rt.alloc(), name, &why),
+    };
     let mut buffer = [0u8; capture::INPUT];
     let mut pages = [0u64; answer_text::PLACES];
     let mut text = [0u8; answer_text::OUTPUT];
-    let n = capture_io::read_whole(fd, &mut buffer);
-    libc::close(fd);
+    let n = capture_io::read_whole(&mut file, &mut buffer);
     let a = capture::check(&buffer[..n], &mut pages);
     let len = answer_text::output(a, &pages, &mut text);
-    io::write_all(STDOUT_FILENO, &text[..len]);
+    rt.write_all(&text[..len])
 }
 
 // The capture that an argument names; whether there is such an argument.
-fn argument(i: usize) -> bool {
-    let mut path = io::buffer();
-    let length = os::arg(i, &mut path);
-    if os::errno() != 0 {
-        return false;
-    }
-    io::write_all(STDOUT_FILENO, &path[..length]);
-    io::write_all(STDOUT_FILENO, b"\n");
-    stored(&path[..length]);
-    true
+fn argument(
+    rt: &(impl Env + Files + Print + AllocGlobal),
+    errors: &impl Print,
+    i: usize,
+) -> io::Result<bool> {
+    let mut name = [0u8; NAME];
+    let Ok(length) = rt.arg(i, &mut name) else {
+        return Ok(false);
+    };
+    rt.write_all(&name[..length])?;
+    rt.write_all(b"\n")?;
+    stored(rt, errors, &name[..length])?;
+    Ok(true)
 }
 
-fn main() {
-    let mut i: usize = 1;
-    while i <= MOST && argument(i) {
-        i += 1;
+fn main(rt: HostRuntime) -> io::Result<()> {
+    let errors = rt.stderr();
+    for i in 1..MOST + 1 {
+        if !argument(&rt, &errors, i)? {
+            break;
+        }
     }
+    Ok(())
 }

@@ -1,5 +1,7 @@
 // The check, the reader and the writer of policy files, SHA-256 and the verification of RSA signatures for programs in C or Rust: include/bleiwurzel.h. A slice is passed
 // as its address and its length, and what is answered besides a number is written to arrays that the caller lends.
+#![tactic(auto)]
+
 mod policy_file;
 mod policy_write;
 

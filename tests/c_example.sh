@@ -3,8 +3,8 @@
 # tests/c_interface.c, which calls every function of the header and prints nothing where all is well.
 set -eu
 cd "$(dirname "$0")/.."
-library=target/staticlib/libbleiwurzel.a
-[ -f "$library" ] || { echo "$library is missing: run 'rt staticlib bleiwurzel' first" >&2; exit 1; }
+library=crates/bleiwurzel/out/libbleiwurzel.a
+[ -f "$library" ] || { echo "$library is missing: run 'rt lib' in crates/bleiwurzel first" >&2; exit 1; }
 folder=$(mktemp -d)
 trap 'rm -rf "$folder"' EXIT
 build() { cc -Wall -Wextra -Werror -std=c11 -Iinclude "$1" "$library" -o "$2"; }

@@ -37,37 +37,37 @@ fn of_type(kind: &str, number: u64) -> Vec<String> {
 const NUMBERS: &[Number] = &[
     Number {
         value: PAGE_SIZE,
-        rattle: &["PAGE_SIZE", "pageSize"],
+        rattle: &["PAGE_SIZE", "page_size"],
         macros: &[],
         said: |n| vec![format!("The window base is no multiple of {n},"), format!("MLE Size is 0, no multiple of {n},")],
     },
     Number {
         value: HIGHEST_END,
-        rattle: &["range::HIGHEST_END", "range::highestEnd"],
+        rattle: &["range::HIGHEST_END", "range::highest_end"],
         macros: &[],
         said: |n| vec![format!("over 2^{}.", n.trailing_zeros()), format!("the high one ends above 2^{}.", n.trailing_zeros())],
     },
     Number {
         value: MOST_WINDOW as u64,
-        rattle: &["MOST_WINDOW", "mostWindow"],
+        rattle: &["MOST_WINDOW", "most_window"],
         macros: &["BLEIWURZEL_MOST_WINDOW"],
         said: |n| vec![format!("the window is over {} MiB", n >> 20)],
     },
     Number {
         value: MOST_HEAP as u64,
-        rattle: &["MOST_HEAP", "mostHeap"],
+        rattle: &["MOST_HEAP", "most_heap"],
         macros: &["BLEIWURZEL_MOST_HEAP"],
         said: |n| vec![format!("the heap is over {} MiB", n >> 20)],
     },
     Number {
         value: MOST_STM as u64,
-        rattle: &["MOST_STM", "mostStm"],
+        rattle: &["MOST_STM", "most_stm"],
         macros: &["BLEIWURZEL_MOST_STM"],
         said: |n| vec![format!("the STM image is over {} MiB", n >> 20)],
     },
     Number {
         value: MOST_RESERVED as u64,
-        rattle: &["MOST_RESERVED", "mostReserved"],
+        rattle: &["MOST_RESERVED", "most_reserved"],
         macros: &["BLEIWURZEL_MOST_RESERVED"],
         said: |n| {
             vec![
@@ -85,30 +85,30 @@ const NUMBERS: &[Number] = &[
         macros: &[],
         said: |n| vec![format!("reserved, always {n} numbers,"), format!("const uint64_t reserved[{n}],")],
     },
-    Number { value: MOST_MODULE, rattle: &["HIGHEST_MODULE_END", "highestModuleEnd"], macros: &[], said: nothing },
-    Number { value: MOST_CHIPSETS, rattle: &["sinit::MOST_ENTRIES", "sinit::mostEntries"], macros: &[], said: nothing },
+    Number { value: MOST_MODULE, rattle: &["HIGHEST_MODULE_END", "highest_module_end"], macros: &[], said: nothing },
+    Number { value: MOST_CHIPSETS, rattle: &["sinit::MOST_ENTRIES", "sinit::most_entries"], macros: &[], said: nothing },
     Number {
         value: MOST_PAGES as u64,
-        rattle: &["MOST_PAGES", "mostPages"],
+        rattle: &["MOST_PAGES", "most_pages"],
         macros: &["BLEIWURZEL_MOST_PAGES"],
         said: |n| vec![format!("or over {n} pages")],
     },
     Number {
         value: MOST_TABLES as u64,
-        rattle: &["MOST_TABLES", "mostTables"],
+        rattle: &["MOST_TABLES", "most_tables"],
         macros: &["BLEIWURZEL_MOST_TABLES"],
         said: |n| vec![format!("The tables take a {}st page", n + 1)],
     },
     // what the programs for captures lend, a number of their own: docs/DECISIONS.md
     Number {
         value: capture::PLACES as u64,
-        rattle: &["PLACES", "lentPlaces"],
+        rattle: &["PLACES", "lent_places"],
         macros: &["BLEIWURZEL_CAPTURE_PLACES"],
         said: nothing,
     },
     Number {
         value: RECORD_LENGTH as u64,
-        rattle: &["RECORD_SIZE", "recordSize"],
+        rattle: &["RECORD_SIZE", "record_size"],
         macros: &["BLEIWURZEL_RECORD_LENGTH"],
         said: |n| {
             vec![
@@ -139,19 +139,19 @@ const NUMBERS: &[Number] = &[
     // In the Rattle sources the bit has its number.
     Number {
         value: policy::SHA256_PERMITTED.trailing_zeros() as u64,
-        rattle: &["SHA256_BIT", "sha256Bit"],
+        rattle: &["SHA256_BIT", "sha256_bit"],
         macros: &[],
         said: nothing,
     },
     Number {
         value: policy::LEAST as u64,
-        rattle: &["FIRST_LIST", "firstList"],
+        rattle: &["FIRST_LIST", "first_list"],
         macros: &["BLEIWURZEL_LEAST_POLICY"],
         said: |n| vec![format!("its size is not {n} to"), format!("it does not have {n} to")],
     },
     Number {
         value: policy::MOST as u64,
-        rattle: &["LARGEST_FILE", "largestFile"],
+        rattle: &["LARGEST_FILE", "largest_file"],
         macros: &["BLEIWURZEL_MOST_POLICY"],
         said: |n| {
             vec![
@@ -163,13 +163,13 @@ const NUMBERS: &[Number] = &[
     },
     Number {
         value: policy::FIRST_LIST as u64,
-        rattle: &["FIRST_LIST", "firstList"],
+        rattle: &["FIRST_LIST", "first_list"],
         macros: &["BLEIWURZEL_FIRST_LIST"],
         said: nothing,
     },
     Number {
         value: policy::MOST_LISTS,
-        rattle: &["MOST_LISTS", "mostLists"],
+        rattle: &["MOST_LISTS", "most_lists"],
         macros: &[],
         said: |n| vec![format!("how many lists there are, 1 to {n};")],
     },
@@ -177,20 +177,20 @@ const NUMBERS: &[Number] = &[
     Number { value: u32::MAX as u64, rattle: &["policy_writer::LARGEST_SIZE"], macros: &[], said: nothing },
     Number {
         value: policy::LAUNCH as u64,
-        rattle: &["LAUNCH_TYPE", "launchType"],
+        rattle: &["LAUNCH_TYPE", "launch_type"],
         macros: &[],
         said: |n| of_type("LAUNCH = 1,", n),
     },
     Number {
         value: policy::CUSTOM as u64,
-        rattle: &["CUSTOM_TYPE", "customType"],
+        rattle: &["CUSTOM_TYPE", "custom_type"],
         macros: &[],
         said: |n| of_type("CUSTOM = 2,", n),
     },
-    Number { value: policy::STM as u64, rattle: &["STM_TYPE", "stmType"], macros: &[], said: |n| of_type("STM = 4", n) },
+    Number { value: policy::STM as u64, rattle: &["STM_TYPE", "stm_type"], macros: &[], said: |n| of_type("STM = 4", n) },
     Number {
         value: NO_LIST as u64,
-        rattle: &["NO_LIST", "noList"],
+        rattle: &["NO_LIST", "no_list"],
         macros: &["BLEIWURZEL_NO_LIST_INDEX"],
         said: |n| {
             vec![format!("On a refusal pages is 0, list {n} and"), format!("{n} under ANY"), format!("counts gets 0 and {n},")]
@@ -204,7 +204,7 @@ const NUMBERS: &[Number] = &[
     },
     Number {
         value: Layout::PLAIN.length(0) as u64,
-        rattle: &["capture::REVISION_END", "capture::revisionEnd"],
+        rattle: &["capture::REVISION_END", "capture::revision_end"],
         macros: &[],
         said: nothing,
     },

@@ -89,7 +89,7 @@ fn the_digest() {
 
 #[test]
 fn the_check_of_every_stored_capture() {
-    const AT_MOST: usize = 6400;
+    const AT_MOST: usize = 5264;
     let mut stack = Box::new(Stack([0; SIZE]));
     let mut most = 0;
     for (name, bytes) in captures() {

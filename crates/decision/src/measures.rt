@@ -33,8 +33,7 @@ fn hash(file: &[u8]) -> [u8; 32]
     while at < file.len() {
         let l = policy_reader::list_at(file, at);
         let measure = sha256::digest(measured(file, l));
-        let next = sha256::absorb(state, &measure);
-        state = next;
+        state = sha256::absorb(state, &measure);
         at += policy_answers::list_size(l);
     }
     sha256::finish(state)

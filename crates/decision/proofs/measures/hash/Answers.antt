@@ -30,7 +30,7 @@ loop-at-preserved c =
     let l = c.loop-at in
     let t = front kinds.list _ _ _ l.invariant _ c.loop-at-test.true c.list_at-l.ensures.0 in
     let m = measure_is _ _ _ _ t _ _ c.measured.ensures c.digest-measure.ensures in
-    onward kinds.list _ _ _ _ _ t _ c.list_size-at.ensures (hashing_step _ _ _ t.first t.others _ t.kept m c.absorb-next.ensures)
+    onward kinds.list _ _ _ _ _ t _ c.list_size-at.ensures (hashing_step _ _ _ t.first t.others _ t.kept m c.absorb-state.ensures)
 
 pub returns : goal.returns
 returns c =

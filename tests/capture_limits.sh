@@ -6,7 +6,7 @@
 set -euo pipefail
 cd "$(dirname "$0")/.."
 example=examples/any.cap
-program=target/bin/launch_check
+program=$(tests/built.sh launch_check)
 expected=crates/launch_check/stdout
 
 # number AT: 32 bits of the example.

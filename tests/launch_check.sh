@@ -5,10 +5,11 @@ set -euo pipefail
 top=$(cd "$(dirname "$0")/.." && pwd)
 folder=$(mktemp -d)
 trap 'rm -rf "$folder"' EXIT
-mkdir -p "$folder/repository/crates/one/src" "$folder/bin" "$folder/elsewhere"
+mkdir -p "$folder/repository/crates/one/src" "$folder/repository/crates/launch_check" "$folder/bin" "$folder/elsewhere"
 cp "$top/launch-check" "$folder/repository/"
 cd "$folder/repository"
 echo "one:" >crates.txt
+program=crates/launch_check/out/launch_check
 echo "a capture" >capture
 export FOLDER=$folder PATH=$folder/bin:$PATH
 
@@ -18,20 +19,25 @@ cat >"$folder/bin/rt" <<'END'
 echo run >>"$FOLDER/runs"
 mkdir "$FOLDER/running" || { echo "two at once" >>"$FOLDER/faults"; exit 1; }
 [ ! -e "$FOLDER/broken" ] || { rmdir "$FOLDER/running"; echo "error: why"; exit 1; }
+[ "$* in $(basename "$PWD")" = "run in launch_check" ] || echo "rt was called as: $* in $PWD" >>"$FOLDER/faults"
 grep -q minutes "$FOLDER/err" || echo "nothing was said before rt was called" >>"$FOLDER/faults"
-echo "fn one::f: proved"
-echo "rt: one proved (1 s)"
+for line in "rt: chose --jobs 2 for one" "checked one::f, 1 of 2" "fn one::f: proved" "rt: two: begins with what a check kept in three"; do
+    echo "$line" >&2
+done
 for wait in $(seq 50); do
-    grep -q "one proved" "$FOLDER/err" && break
+    grep -q "proving two" "$FOLDER/err" && break
     sleep 0.1
 done
-grep -q "one proved" "$FOLDER/err" || echo "a crate was not shown when it was proved" >>"$FOLDER/faults"
-[ ! -e "$FOLDER/edit" ] || { rm "$FOLDER/edit"; sleep 0.1; touch crates/one/src/lib.rt; }
+for name in one two; do
+    [ "$(grep -c "proving $name" "$FOLDER/err")" -eq 1 ] || echo "a crate was not shown when it was proved" >>"$FOLDER/faults"
+done
+[ ! -e "$FOLDER/edit" ] || { rm "$FOLDER/edit"; sleep 0.1; touch ../one/src/lib.rt; }
 sleep 1
-mkdir -p target/bin
-printf '#!/bin/sh\ncat >/dev/null\necho "permitted pages=1 list=255"\n' >target/bin/launch_check
-chmod +x target/bin/launch_check
+mkdir -p out
+printf '#!/bin/sh\ncat >/dev/null\necho "permitted pages=1 list=255"\n' >out/launch_check
+chmod +x out/launch_check
 rmdir "$FOLDER/running"
+out/launch_check
 END
 chmod +x "$folder/bin/rt"
 
@@ -86,7 +92,7 @@ cp capture "$folder/elsewhere/mine"
 
 # A call that is killed: its rt goes on, and the next call waits for it.
 if command -v flock >/dev/null; then
-    rm target/bin/launch_check "$folder/runs"
+    rm "$program" "$folder/runs"
     : >"$folder/err"
     ./launch-check capture >"$folder/out" 2>"$folder/err" &
     first=$!
@@ -100,7 +106,7 @@ if command -v flock >/dev/null; then
 fi
 
 # What is edited while rt runs is built by the next call.
-rm -f target/bin/launch_check
+rm -f "$program"
 : >"$folder/runs"
 : >"$folder/edit"
 status 0 capture

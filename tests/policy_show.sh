@@ -2,8 +2,7 @@
 # What policy_show says of files that it cannot read: their names and why on standard error, and no reading on standard output; and of
 # names that it passes over.
 set -euo pipefail
-top=$(cd "$(dirname "$0")/.." && pwd)
-program=$top/target/bin/policy_show
+program=$("$(dirname "$0")/built.sh" policy_show)
 folder=$(mktemp -d)
 trap 'rm -rf "$folder"' EXIT
 cd "$folder"

@@ -2,7 +2,9 @@
 // answered for a capture is said by the contracts of `capture`.
 #![tactic(auto)]
 
+ghost use Rattle.std.specs.Prelude.{◌≡◌, ◌<◌, take, IfSome, IsTrue};
 ghost use Rattle.std.specs.Counts.{IsPrefixLen};
+ghost use Rattle.std.specs.Io.KnownBytes.{Consumes, IsAtEnd};
 
 use std::alloc::Global;
 use std::io::Read;
@@ -10,30 +12,34 @@ use std::rt::Files;
 use std::{fs, io, str};
 
 // Reads until the buffer is full, the input ends or a read fails: how many bytes stand at the front of the buffer. A read that a signal interrupts
-// counts as one that failed.
-pub fn read_full(input: &mut impl Read, buffer: &mut [u8]) -> usize
-    ensures { IsPrefixLen result buffer.new }
+// counts as one that failed. Of an input whose bytes are known, these are its next ones.
+pub fn read_full<R: Read>(input: &mut R, buffer: &mut [u8]) -> usize
+    ensures in_bounds { IsPrefixLen result buffer.new }
+    ensures bytes { Consumes (R.remaining input.old) (R.remaining input.new) (take result buffer.new) }
 {
     let mut done = 0;
     while done < buffer.len() {
-        let n = input.read(&mut buffer[done..]).unwrap_or(0);
-        if n == 0 {
-            break;
+        match input.read(&mut buffer[done..]) {
+            Ok(0) => break,
+            Ok(n) => done += n,
+            Err(_) => break,
         }
-        done += n;
     }
     done
 }
 
 // Whether the input ends here. Where reading fails, that is not known, and it counts as no end.
-fn ended(input: &mut impl Read) -> bool {
+fn ended<R: Read>(input: &mut R) -> bool
+    ensures { IsTrue result → IsAtEnd (R.remaining input.old) }
+{
     let mut next = [0u8; 1];
     matches!(input.read(&mut next), Ok(0))
 }
 
 // How many bytes at the front of the buffer are the whole input; 0, and so no capture, where the input was not read to its end.
-pub fn read_whole(input: &mut impl Read, buffer: &mut [u8]) -> usize
-    ensures { IsPrefixLen result buffer.new }
+pub fn read_whole<R: Read>(input: &mut R, buffer: &mut [u8]) -> usize
+    ensures in_bounds { IsPrefixLen result buffer.new }
+    ensures whole { 0 < result → IfSome (R.remaining input.old) (λ bytes. take result buffer.new ≡ bytes) }
 {
     let n = read_full(input, buffer);
     if ended(input) { n } else { 0 }

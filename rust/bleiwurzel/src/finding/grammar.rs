@@ -1,5 +1,8 @@
 //! What is said of rules 26 and 27: the policy file's place and length, and the field of it at which the reading stopped.
 
+#[cfg(test)]
+mod walk;
+
 use super::{bytes, counted, heap, spaced, words, Asked, Field, Finding, Length, Words};
 use crate::policy;
 use twin::policy::{

@@ -12,5 +12,6 @@ slice_bounds-bytes-end c =
     omega arith
 
 pub slice_bounds-put-end : goal.slice_bounds-put-end
-slice_bounds-put-end c = sym (length-take-le _ _ ((let e : length c.args.line.bytes ≡ 48 = search rules in
-    omega arith)))
+slice_bounds-put-end c =
+    let e : length c.args.line.bytes ≡ 48 = search rules in
+    sym (length-take-le _ _ (omega arith))

@@ -14,7 +14,7 @@ pub slice_bounds-p-end : goal.slice_bounds-p-end
 slice_bounds-p-end c = omega (arith, c.pad-n.auto.p)
 
 pub slice_bounds-hash_blocks-end : goal.slice_bounds-hash_blocks-end
-slice_bounds-hash_blocks-end c = sym (length-take-le _ _ ((omega (arith, c.pad-n.auto.p))))
+slice_bounds-hash_blocks-end c = sym (length-take-le _ _ (omega (arith, c.pad-n.auto.p)))
 
 pub returns : goal.returns
 returns c =

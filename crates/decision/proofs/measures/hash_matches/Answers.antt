@@ -17,4 +17,4 @@ compared t r h k e l q = e ∙ marked_same r 38 h 32 (sym l) (lit< tt) ∙ rw q
 
 pub returns : goal.returns
 unfolding hash_matches
-returns c = compared _ _ _ _ c.marked.ensures ((search rules)) c.hash-h.ensures
+returns c = compared _ _ _ _ c.marked.ensures (search rules) c.hash-h.ensures

@@ -18,7 +18,7 @@ pub slice_bounds-numbers-end : goal.slice_bounds-numbers-end
 slice_bounds-numbers-end c = search (rules, numbers_within)
 
 pub slice_bounds-all_meet-end : goal.slice_bounds-all_meet-end
-slice_bounds-all_meet-end c = sym (length-take-le _ _ ((search (rules, numbers_within))))
+slice_bounds-all_meet-end c = sym (length-take-le _ _ (search (rules, numbers_within)))
 
 pub returns : goal.returns
 unfolding all reserved_tests

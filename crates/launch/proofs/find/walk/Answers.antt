@@ -9,7 +9,7 @@ pub slice_bounds-numbers-end : goal.slice_bounds-numbers-end
 slice_bounds-numbers-end c = search (rules, numbers_within)
 
 pub slice_bounds-walk-end : goal.slice_bounds-walk-end
-slice_bounds-walk-end c = sym (length-take-le _ _ ((search (rules, numbers_within))))
+slice_bounds-walk-end c = sym (length-take-le _ _ (search (rules, numbers_within)))
 
 pub returns : goal.returns
 returns c = c.walk.ensures

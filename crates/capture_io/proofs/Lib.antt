@@ -1,2 +1,3 @@
 -- What the proofs cite.
 mod Filled
+mod Numbered

@@ -2,11 +2,12 @@
 // answered for a capture is said by the contracts of `capture`.
 #![tactic(auto)]
 
-ghost use Rattle.std.specs.Prelude.{◌≡◌, ◌<◌, take, IfSome, IsTrue};
+ghost use Rattle.std.specs.Prelude.{◌≡◌, ◌<◌, take, IfOk, IfSome, IsTrue, IsUtf8};
 ghost use Rattle.std.specs.Counts.{IsPrefixLen};
 ghost use Rattle.std.specs.Io.KnownBytes.{Consumes, IsAtEnd};
+ghost use Rattle.capture_io.specs.Unread.{words, unread_line};
 
-use std::alloc::Global;
+use std::alloc::{AllocError, Global};
 use std::io::Read;
 use std::rt::Files;
 use std::{fs, io, str};
@@ -45,26 +46,42 @@ pub fn read_whole<R: Read>(input: &mut R, buffer: &mut [u8]) -> usize
     if ended(input) { n } else { 0 }
 }
 
-// The file of a name, opened for reading. The paths of std are text, so a name that is not names no file.
-pub fn open<R: Files>(rt: &R, name: &[u8]) -> io::Result<R::File> {
+// The file of a name, opened for reading; which file that is, and whether there is one, is the operating system's. The paths of std are text, so a
+// name that is not names no file.
+pub fn open<R: Files>(rt: &R, name: &[u8]) -> io::Result<R::File>
+    ensures { IfOk result (λ _. IsUtf8 name.now) }
+{
     match str::from_utf8(name) {
         Ok(path) => fs::open(rt, path),
         Err(_) => Err(io::Error::new(io::ErrorKind::InvalidFilename, "Not a name in UTF-8")),
     }
 }
 
-// The system's words for an error, without the number that std puts behind them.
-fn words(text: &str) -> &str {
-    match text.find(" (os error ") {
-        Some(end) => &text[..end],
-        None => text,
+// What std puts behind the system's words for an error begins so; its number follows.
+const NUMBERED: &[u8] = b" (os error ";
+
+// The system's words for an error, of what std shows for it.
+fn words(text: &[u8]) -> &[u8]
+    ensures { result.now ≡ words text.now }
+{
+    let mut end = 0;
+    while end < text.len() {
+        if text[end..].starts_with(NUMBERED) {
+            break;
+        }
+        end += 1;
     }
+    &text[..end]
 }
 
-// Writes a line to standard error, where `errors` leads: what could not be read, a colon, and why.
-pub fn say_why(errors: &impl Print, alloc: Global, name: &[u8], why: &io::Error) -> io::Result<()> {
-    let text = format!(in alloc; "{why}")?;
-    let why = words(text.as_str());
-    errors.write_all(name)?;
-    println!(errors; ": {why}")
+// The line for standard error of a name that could not be read: the name, a colon, and why, of what std shows for the error.
+pub fn unread_line(alloc: Global, name: &[u8], why: &[u8]) -> Result<Vec<u8>, AllocError>
+    ensures { IfOk result (λ line. line.items ≡ unread_line name.now why.now) }
+{
+    let mut line = Vec::new(alloc);
+    line.extend_from_slice(name)?;
+    line.extend_from_slice(b": ")?;
+    line.extend_from_slice(words(why))?;
+    line.extend_from_slice(b"\n")?;
+    Ok(line)
 }

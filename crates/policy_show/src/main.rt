@@ -3,6 +3,7 @@
 
 mod show;
 
+use std::alloc::Global;
 use std::env::FillError;
 use std::io;
 use std::io::{Input, Read};
@@ -10,6 +11,13 @@ use std::rt::{Env, Files};
 
 // One byte more than the longest policy file.
 const SPACE: usize = policy_reader::LARGEST_FILE + 1;
+
+// Says on standard error what could not be read, and why.
+fn unread(errors: &impl Print, alloc: Global, name: &[u8], why: &io::Error) -> io::Result<()> {
+    let text = format!(in alloc; "{why}")?;
+    let line = capture_io::unread_line(alloc, name, text.as_bytes())?;
+    errors.write_all(&line)
+}
 
 // The policy file that is read. A file that was not read to its end is not shown; one that fills the buffer is too long, whatever follows.
 fn from(
@@ -28,7 +36,7 @@ fn from(
                 errors.write_all(name)?;
                 return errors.write_all(b": not read to its end\n");
             }
-            Err(why) => return capture_io::say_why(errors, rt.alloc(), name, &why),
+            Err(why) => return unread(errors, rt.alloc(), name, &why),
         }
     }
     show::file(rt, &buffer[..n])
@@ -49,7 +57,7 @@ fn named(
     }
     match capture_io::open(rt, name) {
         Ok(mut file) => from(rt, errors, &mut file, name),
-        Err(why) => capture_io::say_why(errors, rt.alloc(), name, &why),
+        Err(why) => unread(errors, rt.alloc(), name, &why),
     }
 }
 

@@ -18,7 +18,11 @@ fn stored<R: Files + Print + AllocGlobal>(
 ) -> io::Result<()> {
     let mut file = match capture_io::open(rt, name) {
         Ok(file) => file,
-        Err(why) => return capture_io::say_why(errors, rt.alloc(), name, &why),
+        Err(why) => {
+            let text = format!(in rt.alloc(); "{why}")?;
+            let line = capture_io::unread_line(rt.alloc(), name, text.as_bytes())?;
+            return errors.write_all(&line);
+        }
     };
     let mut buffer = [0u8; capture::INPUT];
     let mut pages = [0u64; answer_text::PLACES];

@@ -1,5 +1,5 @@
-// Input for the programs: bytes that are read into a buffer that the caller lends, and files by name. What the bytes are is the operating system's; what is
-// answered for a capture is said by the contracts of `capture`.
+// Input for the programs: bytes that are read into a buffer that the caller lends, files by name, and the line that says why a name could not be read. What
+// the bytes of a file are is the operating system's; what is answered for a capture is said by the contracts of `capture`.
 #![tactic(auto)]
 
 ghost use Rattle.std.specs.Prelude.{◌≡◌, ◌<◌, take, IfOk, IfSome, IsTrue, IsUtf8};

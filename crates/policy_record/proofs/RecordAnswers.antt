@@ -1,7 +1,7 @@
 -- The answer for a record is LIST or ANY exactly where every rule of it says what is so, and a number exactly where it is that of the first rule
 -- that is broken.
 use Prim.Native.Nat.{ℕ, ◌<◌}
-use mathlib.Core.Path.{◌≡◌, refl}
+use mathlib.Core.Path.{◌≡◌, refl, sym}
 use mathlib.Core.Logic.{◌↔◌, ⊎_elim}
 use mathlib.Core.Bool.{Bool, true, false, cond}
 use mathlib.Core.List.{List}
@@ -12,47 +12,30 @@ use Rattle.rules.specs.Rules.{Rule, first_failing}
 use Rattle.rules.specs.Meaning.{AllSay}
 use Rattle.rules.proofs.Tests.{◌&◌}
 use Rattle.rules.proofs.Meaning.{Agree, agrees, all_mean}
-use Rattle.rules.proofs.Answers.{number_of_lem, value_exactly, number_exactly, number_means}
-use Rattle.policy_record.specs.declared.RecordAnswer.{RecordAnswer}
-use Rattle.policy_record.specs.declared.RecordAnswer.TheVariants as answers
+use Rattle.rules.proofs.Refusals.{value_by, refused_by, number_by, refused_means}
+use Rattle.std.specs.Prelude.{Ok, Err}
+use Rattle.policy_record.specs.declared.PolicyType.{PolicyType}
+use Rattle.policy_record.specs.declared.PolicyType.TheVariants as types
 use Rattle.policy_record.specs.Record.{policy_type, LIST, record_rules}
-use Rattle.policy_record.specs.Answers.{kind_of, number_of, record_of}
+use Rattle.policy_record.specs.Answers.{kind_of, record_of}
 use Rattle.policy_record.specs.Meaning.{record_meanings, NumberIsFirst, AnswerExactly}
 use Rattle.policy_record.proofs.Conditions.{record_exactly, worthy_or_allowed_exactly, reached_exactly}
 
-different : {A : Type 0} → ◌≡◌ {A = ℕ} 0 1 → A
-different z = absurd (omega arith)
-
-same : (m n : ℕ) → answers.Refused m ≡ answers.Refused n → m ≡ n
-same m n e = cc
-
--- a refusal is no kind of policy
-not_list : (n : ℕ) → answers.Refused n ≡ answers.List → ⊥
-not_list n e = different (cc)
-
-not_any : (n : ℕ) → answers.Refused n ≡ answers.Any → ⊥
-not_any n e = different (cc)
-
 -- the kind by the test of the type
 module _ (type : ℕ) where
-  abbrev by : Bool → RecordAnswer
-  by t = cond t answers.List answers.Any
+  abbrev by : Bool → PolicyType
+  by t = cond t types.List types.Any
 
-  is_list : (t : Bool) → eqb type LIST ≡ t → (by t ≡ answers.List) ↔ (type ≡ LIST)
+  different : ◌≡◌ {A = PolicyType} types.List types.Any → ⊥
+  different e = cc
+
+  is_list : (t : Bool) → eqb type LIST ≡ t → (by t ≡ types.List) ↔ (type ≡ LIST)
   is_list true q = (λ e. eqb-true type LIST q, λ h. refl)
-  is_list false q = (λ e. different (cc), λ h. absurd (eqb-false type LIST q h))
+  is_list false q = (λ e. absurd (different (sym e)), λ h. absurd (eqb-false type LIST q h))
 
-  is_any : (t : Bool) → eqb type LIST ≡ t → (by t ≡ answers.Any) ↔ (type ≡ LIST → ⊥)
-  is_any true q = (λ e. different (cc), λ h. absurd (h (eqb-true type LIST q)))
+  is_any : (t : Bool) → eqb type LIST ≡ t → (by t ≡ types.Any) ↔ (type ≡ LIST → ⊥)
+  is_any true q = (λ e. absurd (different e), λ h. absurd (h (eqb-true type LIST q)))
   is_any false q = (λ e. eqb-false type LIST q, λ h. refl)
-
-  is_number : (t : Bool) → number_of (by t) ≡ 0
-  is_number true = refl
-  is_number false = refl
-
-  not_refused : (t : Bool) (n : ℕ) → by t ≡ answers.Refused n → ⊥
-  not_refused true n e = different (cc)
-  not_refused false n e = different (cc)
 
 -- THE RECORD
 
@@ -63,27 +46,27 @@ module _ (r : List ℕ) (flags acm_version : ℕ) where
   abbrev rs : List Rule
   rs = record_rules r flags acm_version
 
-  abbrev kind : RecordAnswer
+  abbrev kind : PolicyType
   kind = kind_of (policy_type r)
 
   -- LIST or ANY by the number and the type; a number is that of the first rule that fails
-  pub list_exactly : (record_of r flags acm_version ≡ answers.List) ↔ ((first_failing rs ≡ 0) × (policy_type r ≡ LIST))
+  pub list_exactly : (record_of r flags acm_version ≡ Ok types.List) ↔ ((first_failing rs ≡ 0) × (policy_type r ≡ LIST))
   unfolding record_of
   list_exactly =
-      let answer = value_exactly answers.Refused kind answers.List not_list (first_failing rs) in
+      let answer = value_by kind types.List (first_failing rs) in
       let type = is_list (policy_type r) (eqb (policy_type r) LIST) refl in
       (λ e. (let h = answer.0 e in (h.0, type.0 h.1)), λ h. answer.1 (h.0, type.1 h.1))
 
-  pub any_exactly : (record_of r flags acm_version ≡ answers.Any) ↔ ((first_failing rs ≡ 0) × (policy_type r ≡ LIST → ⊥))
+  pub any_exactly : (record_of r flags acm_version ≡ Ok types.Any) ↔ ((first_failing rs ≡ 0) × (policy_type r ≡ LIST → ⊥))
   unfolding record_of
   any_exactly =
-      let answer = value_exactly answers.Refused kind answers.Any not_any (first_failing rs) in
+      let answer = value_by kind types.Any (first_failing rs) in
       let type = is_any (policy_type r) (eqb (policy_type r) LIST) refl in
       (λ e. (let h = answer.0 e in (h.0, type.0 h.1)), λ h. answer.1 (h.0, type.1 h.1))
 
-  pub refusal_exactly : (n : ℕ) → (record_of r flags acm_version ≡ answers.Refused n) ↔ ((0 < n) × (first_failing rs ≡ n))
+  pub refusal_exactly : (n : ℕ) → (record_of r flags acm_version ≡ Err n) ↔ ((0 < n) × (first_failing rs ≡ n))
   unfolding record_of
-  refusal_exactly n = number_exactly answers.Refused kind (not_refused (policy_type r) (eqb (policy_type r) LIST)) same (first_failing rs) n
+  refusal_exactly n = refused_by kind (first_failing rs) n
 
   -- no rule fails exactly where every rule says what is so
   pub all_say : (first_failing rs ≡ 0) ↔ AllSay (record_meanings r flags acm_version)
@@ -91,8 +74,7 @@ module _ (r : List ℕ) (flags acm_version : ℕ) where
 
 pub number_is_first : NumberIsFirst
 unfolding record_of
-number_is_first r flags acm_version =
-    number_of_lem answers.Refused (kind r flags acm_version) number_of (is_number (policy_type r) (eqb (policy_type r) LIST)) (λ n. refl) (first_failing (rs r flags acm_version))
+number_is_first r flags acm_version = number_by (kind r flags acm_version) (first_failing (rs r flags acm_version))
 
 pub answer_exactly : AnswerExactly
 unfolding record_of
@@ -105,5 +87,5 @@ answer_exactly r flags acm_version =
         λ e. (let h = any.0 e in let s = say.0 h.0 in (s, ⊎_elim (λ z. absurd (h.1 z)) (λ z. z) s.0.type)),
         λ h. any.1 (say.1 h.0, λ z. omega arith),
       ),
-      number_means answers.Refused (kind r flags acm_version) (rs r flags acm_version) (record_meanings r flags acm_version) (agree r flags acm_version) (not_refused (policy_type r) (eqb (policy_type r) LIST)) same,
+      refused_means (kind r flags acm_version) (rs r flags acm_version) (record_meanings r flags acm_version) (agree r flags acm_version),
     )

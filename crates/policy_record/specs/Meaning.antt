@@ -1,11 +1,12 @@
 -- What rules 23 to 25 say, as plain propositions, and that the tests say exactly this. Each statement that ends in `Exactly` is proved under the same
 -- name in small letters: proofs/Conditions.antt and RecordAnswers.antt.
-use Rattle.std.specs.Prelude.{ℕ, ◌/◌, ◌%◌, ◌^◌, ◌≤◌, ◌≡◌, ◌↔◌, ◌⊎◌, true, List, [], ◌∷◌, length}
+use Rattle.std.specs.Prelude.{ℕ, ◌/◌, ◌%◌, ◌^◌, ◌≤◌, ◌≡◌, ◌↔◌, ◌⊎◌, true, List, [], ◌∷◌, length, Ok, Err}
 use Rattle.rules.specs.Rules.{all, first_failing}
+use Rattle.rules.specs.Refusal.{number_of}
 use Rattle.rules.specs.Meaning.{Meaning, meaning, AllSay, FirstBroken}
-use Rattle.policy_record.specs.declared.RecordAnswer.TheVariants as answers
+use Rattle.policy_record.specs.declared.PolicyType.TheVariants as types
 use Rattle.policy_record.specs.Record.{record_size, version_high, known_version, hash_alg, sha256_alg, policy_type, LIST, ANY, sinit_min_version, control, lcp_hash_alg_mask, sha256_bit, record_tests, worthy_or_allowed, version_reached, record_rules}
-use Rattle.policy_record.specs.Answers.{number_of, record_of}
+use Rattle.policy_record.specs.Answers.{record_of}
 
 -- bit k of a number, 0 the lowest, is 1
 abbrev pub Bit : ℕ → ℕ → Type 0
@@ -50,6 +51,6 @@ ReachedExactly = (acm_version : ℕ) (r : List ℕ) → (version_reached acm_ver
 abbrev pub AnswerExactly : Type 0
 AnswerExactly =
     (r : List ℕ) (flags acm_version : ℕ)
-    → ((record_of r flags acm_version ≡ answers.List) ↔ (AllSay (record_meanings r flags acm_version) × (policy_type r ≡ LIST)))
-    × ((record_of r flags acm_version ≡ answers.Any) ↔ (AllSay (record_meanings r flags acm_version) × (policy_type r ≡ ANY)))
-    × ((n : ℕ) → (record_of r flags acm_version ≡ answers.Refused n) ↔ FirstBroken (record_meanings r flags acm_version) n)
+    → ((record_of r flags acm_version ≡ Ok types.List) ↔ (AllSay (record_meanings r flags acm_version) × (policy_type r ≡ LIST)))
+    × ((record_of r flags acm_version ≡ Ok types.Any) ↔ (AllSay (record_meanings r flags acm_version) × (policy_type r ≡ ANY)))
+    × ((n : ℕ) → (record_of r flags acm_version ≡ Err n) ↔ FirstBroken (record_meanings r flags acm_version) n)

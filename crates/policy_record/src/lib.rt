@@ -3,17 +3,18 @@
 
 ghost use Rattle.std.specs.Prelude.{◌≡◌};
 ghost use Rattle.rules.specs.Rules.{all, first_failing};
+ghost use Rattle.rules.specs.Refusal.{numbered, failing};
 ghost use Rattle.policy_record.specs.Record.{policy_type, revocation_counter, lcp_hash_alg_mask, sha256_bit, bit, record_tests, worthy_or_allowed, version_reached, record_rules};
 ghost use Rattle.policy_record.specs.Answers.{record_of};
 
 use field::number_or_zero;
+use rules::{Refusal, require};
 
-// The kind of policy of a record for which rules 23 to 25 hold, or the number of the rule that refuses it.
-#[derive(Clone, Copy)]
-pub enum RecordAnswer {
-    Any,
+// The kind of policy of a record.
+#[derive(Clone, Copy, PartialEq, Eq)]
+pub enum PolicyType {
     List,
-    Refused(u32),
+    Any,
 }
 
 // HashAlg of SHA-256.
@@ -86,27 +87,24 @@ fn version_reached(acm_version: u64, record: &[u8]) -> bool
     number_or_zero(record, 5, 1) <= acm_version
 }
 
-// The number of the first of rules 23 to 25 that fails, 0 where all hold.
-fn fault(record: &[u8], flags: u64, acm_version: u64) -> u32
-    ensures { result ≡ first_failing (record_rules «record».now flags acm_version) }
+// Rules 23 to 25, in this order.
+fn judge(record: &[u8], flags: u64, acm_version: u64) -> Result<(), Refusal>
+    ensures { failing result ≡ first_failing (record_rules «record».now flags acm_version) }
 {
-    let from25 = rules::unless(version_reached(acm_version, record), 25, 0);
-    let from24 = rules::unless(worthy_or_allowed(flags, record), 24, from25);
-    rules::unless(record_holds(record), 23, from24)
+    require(record_holds(record), Refusal::PolicyRecord)?;
+    require(worthy_or_allowed(flags, record), Refusal::NotProduction)?;
+    require(version_reached(acm_version, record), Refusal::ModuleVersion)
 }
 
-// The kind of policy of a record, for the flags of a module and its AcmVersion.
-pub fn kind(record: &[u8], flags: u64, acm_version: u64) -> RecordAnswer
-    ensures { result ≡ record_of «record».now flags acm_version }
+// The kind of policy of a record, for the flags of a module and its AcmVersion, or the first of rules 23 to 25 that fails.
+pub fn kind(record: &[u8], flags: u64, acm_version: u64) -> Result<PolicyType, Refusal>
+    ensures { numbered result ≡ record_of «record».now flags acm_version }
 {
-    let n = fault(record, flags, acm_version);
-    if n != 0 {
-        return RecordAnswer::Refused(n);
-    }
+    judge(record, flags, acm_version)?;
     if policy_type(record) == LIST {
-        return RecordAnswer::List;
+        return Ok(PolicyType::List);
     }
-    RecordAnswer::Any
+    Ok(PolicyType::Any)
 }
 
 // The revocation counter of the list number i.

@@ -4,3 +4,4 @@ pub mod Tests
 pub mod Filter
 pub mod Meaning
 pub mod Answers
+pub mod Refusals

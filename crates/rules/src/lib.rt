@@ -1,11 +1,15 @@
-// Rules in the order they are tried: the number of the first that fails.
+// Rules in the order they are tried, and what is refused by each.
 #![tactic(auto)]
 
-ghost use Rattle.std.specs.Prelude.{◌≡◌, cond};
+mod refusal;
 
-// The number of a rule that fails, or what the later rules give where it holds.
-pub fn unless(holds: bool, number: u32, later: u32) -> u32
-    ensures { result ≡ cond holds later number }
+ghost use Rattle.std.specs.Prelude.{◌≡◌, cond, Ok, Err};
+
+pub use refusal::Refusal;
+
+// Goes on where a rule holds, and stops with its refusal where it fails.
+pub fn require(holds: bool, refusal: Refusal) -> Result<(), Refusal>
+    ensures { result ≡ cond holds (Ok tt) (Err refusal) }
 {
-    if holds { later } else { number }
+    if holds { Ok(()) } else { Err(refusal) }
 }

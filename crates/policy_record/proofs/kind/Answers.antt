@@ -1,33 +1,21 @@
--- `kind` meets its contract: 0 gives the kind of policy, and every other number is a refusal.
-use Prim.Native.Nat.{ℕ}
-use mathlib.Core.Path.{◌≡◌, ap, sym, ◌∙◌}
-use borrow.Author.Tests.{ne_eqb}
-use Rattle.rules.specs.Rules.{answer_for}
-use Rattle.rules.proofs.Answers.{for_zero, for_other}
-use Rattle.policy_record.specs.declared.RecordAnswer.{RecordAnswer}
-use Rattle.policy_record.specs.declared.RecordAnswer.TheVariants as answers
+-- `kind` meets its contract: the first rule that fails refuses the record, else its type gives the kind.
+use mathlib.Core.Path.{sym, ◌∙◌}
+use borrow.Author.Tests.{eq-eqb, ne_eqb}
+use Rattle.std.proofs.lemmas.Result.{err_from_is_err_and}
+use Rattle.rules.proofs.Refusals.{refusal_at, value_after}
 use Rattle.policy_record.specs.Record.{LIST}
-use Rattle.policy_record.specs.Answers.{kind_of, record_of}
-use borrow.Author.Rules.{rules}
+use Rattle.policy_record.specs.Answers.{record_of}
 use Rattle.policy_record.proofs.kind.Goals as goal
 
-refused : (n k : ℕ) (a : RecordAnswer) → n ≡ k → (n ≡ 0 → ⊥) → answers.Refused n ≡ answer_for answers.Refused a k
-refused n k a e h = sym (ap (answer_for answers.Refused a) (sym e) ∙ for_other answers.Refused a n h)
-
-list : (n k type t : ℕ) → n ≡ k → n ≡ 0 → t ≡ type → t ≡ LIST → answers.List ≡ answer_for answers.Refused (kind_of type) k
-list n k type t e z q h = rw (for_zero answers.Refused (kind_of type) k (sym e ∙ z), ← q, h)
-
-any : (n k type t : ℕ) → n ≡ k → n ≡ 0 → t ≡ type → (t ≡ LIST → ⊥) → answers.Any ≡ answer_for answers.Refused (kind_of type) k
-any n k type t e z q h = rw (for_zero answers.Refused (kind_of type) k (sym e ∙ z), ← q, ne_eqb t LIST h)
-
-pub returns-then-n-ne0 : goal.returns-then-n-ne0
+pub returns-in_err-judge : goal.returns-in_err-judge
 unfolding record_of
-returns-then-n-ne0 c = search (rules, refused)
+returns-in_err-judge c = refusal_at _ _ (err_from_is_err_and c.from_residual.result c.from_residual.ensures.1) c.in_err-judge.ensures
 
 pub returns-then-policy_type-eq-LIST : goal.returns-then-policy_type-eq-LIST
 unfolding record_of
-returns-then-policy_type-eq-LIST c = search (rules, list)
+returns-then-policy_type-eq-LIST c =
+    rw (eq-eqb _ LIST (sym c.policy_type.ensures ∙ c.if-policy_type-eq-LIST.true)) (value_after _ _ c.in_ok-judge.ensures)
 
 pub returns : goal.returns
 unfolding record_of
-returns c = search (rules, any)
+returns c = rw (ne_eqb _ LIST (λ e. c.if-policy_type-eq-LIST.false (c.policy_type.ensures ∙ e))) (value_after _ _ c.in_ok-judge.ensures)

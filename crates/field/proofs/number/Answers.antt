@@ -4,7 +4,6 @@ use mathlib.Core.Path.{◌≡◌}
 use mathlib.Core.List.{List}
 use native.Mathlib.Nat.{lt_of_lt_of_le, pow-le-pow_right, sub_self}
 use native.Mathlib.Omega.{arith}
-use borrow.Author.Rules.{rules}
 use lib.Dec.{lit<}
 use lib.ListN.{length, get_or, drop}
 use lib.Seq.{drop-cons}
@@ -18,51 +17,42 @@ seven : (n at : ℕ) (s : List ℕ) → Bytes s → n ≤ 7 → spec.number n (d
 seven n at s b h =
     lt_of_lt_of_le (number_below n (drop at s) (bytes_drop at s b)) (pow-le-pow_right {n = 256} (lit< tt) h)
 
-start : (width : ℕ) (s : List ℕ) → 0 ≡ spec.number (width - width) s
+start : (n : ℕ) (s : List ℕ) → 0 ≡ spec.number (n - n) s
 unfolding spec.number
-start width s = rw sub_self
+start n s = rw sub_self
 
-step : (width k at x : ℕ) (s : List ℕ) → 0 < k → k ≤ width → at + width ≤ length s → x ≡ spec.number (width - k) (drop (at + k) s)
-    → x * 256 + get_or s (at + (k - 1)) 0 ≡ spec.number (width - (k - 1)) (drop (at + (k - 1)) s)
+step : (k x : ℕ) (s : List ℕ) → 0 < k → k ≤ length s → x ≡ spec.number (length s - k) (drop k s)
+    → x * 256 + get_or s (k - 1) 0 ≡ spec.number (length s - (k - 1)) (drop (k - 1) s)
 unfolding spec.number
-step width k at x s p h f e =
-    let e₁ : width - (k - 1) ≡ suc (width - k) = omega arith in
-    let e₂ : suc (at + (k - 1)) ≡ at + k = omega arith in
-    rw (e₁, drop-cons s (at + (k - 1)) 0 (omega arith), e₂, e) (omega arith)
+step k x s p h e =
+    let e₁ : length s - (k - 1) ≡ suc (length s - k) = omega arith in
+    let e₂ : suc (k - 1) ≡ k = omega arith in
+    rw (e₁, drop-cons s (k - 1) 0 (omega arith), e₂, e) (omega arith)
 
-end : (width k at x : ℕ) (s : List ℕ) → k ≤ 0 → x ≡ spec.number (width - k) (drop (at + k) s) → x ≡ spec.number width (drop at s)
-end width k at x s h e =
-    let e₁ : width - k ≡ width = omega arith in
-    let e₂ : at + k ≡ at = omega arith in
-    rw (e₁, e₂) at e
+end : (k x : ℕ) (s : List ℕ) → k ≤ 0 → x ≡ spec.number (length s - k) (drop k s) → x ≡ spec.number (length s) s
+end k x s h e =
+    let e₁ : k ≡ 0 = omega arith in
+    let e₂ : length s - 0 ≡ length s = omega arith in
+    rw e₂ at (rw e₁ at e)
 
 pub loop-k-init : goal.loop-k-init
-loop-k-init c = (search rules, start c.args.width _)
+loop-k-init c = start _ _
 
 pub overflow_mul-x : goal.overflow_mul-x
 overflow_mul-x c =
-    let a = c.args in
     let k = c.loop-k.k in
-    omega (arith, seven (a.width - k) (a.at + k) a.s.now (λ i. (c.type_inv.s i).fits) (omega arith))
+    record { fits = omega (arith, seven (length c.args.bytes.now - k) k c.args.bytes.now (λ i. (c.type_inv.bytes i).fits) (omega arith)) }
 
 pub overflow_add-x : goal.overflow_add-x
 overflow_add-x c =
-    let a = c.args in
     let k = c.loop-k.k in
-    let b : Bytes a.s.now = λ i. (c.type_inv.s i).fits in
-    omega (arith, seven (a.width - k) (a.at + k) a.s.now b (omega arith), b (a.at + (k - 1)))
+    let b : Bytes c.args.bytes.now = λ i. (c.type_inv.bytes i).fits in
+    record { fits = omega (arith, seven (length c.args.bytes.now - k) k c.args.bytes.now b (omega arith), b (k - 1), c.from.ensures) }
 
 pub loop-k-preserved : goal.loop-k-preserved
-loop-k-preserved c =
-    let a = c.args in (
-      search rules,
-      rw c.wide.ensures
-          (step a.width c.loop-k.k a.at c.loop-k.x a.s.now (omega arith) (omega arith) (omega arith) c.loop-k.invariant.1),
-    )
+loop-k-preserved c = rw c.from.ensures (step _ _ _ (omega arith) (omega arith) c.loop-k.invariant)
 
 pub returns : goal.returns
 returns c =
-    let a = c.args in
-    let e = end a.width c.loop-k.k a.at c.loop-k.x a.s.now (omega arith) c.loop-k.invariant.1 in
-    let b = bytes_drop a.at a.s.now (λ i. (c.type_inv.s i).fits) in
-    (e, rw e (number_below a.width (drop a.at a.s.now) b))
+    let e = end _ _ _ c.loop-k-test.false c.loop-k.invariant in
+    (e, rw e (number_below _ _ (λ i. (c.type_inv.bytes i).fits)))

@@ -1,18 +1,18 @@
 -- `number_or_zero` meets its contract: it gives the number of the field that `read` gives.
-use Prim.Native.Nat.{ℕ, ◌<◌}
-use mathlib.Core.Path.{◌≡◌, ap, sym, ◌∙◌}
-use Rattle.field.specs.declared.Field.{Field}
+use Prim.Native.Nat.{ℕ}
+use mathlib.Core.Path.{◌≡◌, refl, ap, sym, ◌∙◌}
+use Rattle.std.specs.Prelude.{Result, Ok, Err}
+use Rattle.std.specs.Result.{result_unwrap_or}
+use Rattle.field.specs.declared.Fault.{Fault}
 use Rattle.field.specs.Field.{value_of}
 use Rattle.field.proofs.number_or_zero.Goals as goal
 
--- what holds of the result of `read` holds of its variant
-variant : {f v w : Field} {bound : ℕ} → f ≡ v → (f ≡ w) × (value_of f < bound) → (value_of v ≡ value_of w) × (value_of v < bound)
-variant q e = (ap value_of (sym q ∙ e.0), rw q at e.1)
-
-pub returns-in-Number : goal.returns-in-Number
+or_zero : (r : Result ℕ Fault) → result_unwrap_or r 0 ≡ value_of r
 unfolding value_of
-returns-in-Number c = variant c.in-Number.is c.read.ensures
+or_zero (Ok x) = refl
+or_zero (Err f) = refl
 
-pub returns-in-Outside : goal.returns-in-Outside
-unfolding value_of
-returns-in-Outside c = variant c.in-Outside.is c.read.ensures
+pub returns : goal.returns
+returns c =
+    let e = c.unwrap_or.ensures ∙ or_zero c.read.result in
+    (e ∙ ap value_of c.read.ensures.0, rw (sym e) at c.read.ensures.1)

@@ -2,7 +2,10 @@
 #![tactic(auto)]
 
 ghost use Rattle.std.specs.Prelude.{◌≡◌};
+ghost use Rattle.rules.specs.Refusal.{number, place};
 ghost use Rattle.answer.specs.Answer as spec;
+
+use rules::Refusal;
 
 // The number, how many pages were written, the list that permits, the offset of the first field at fault in the policy file on 27, else 0, and the
 // digest of the pages.
@@ -28,5 +31,13 @@ pub fn refused(number: u32, place: u32) -> Answer
         list: NO_LIST,
         place,
         digest: [0u8; 32],
+    }
+}
+
+impl From<Refusal> for Answer {
+    ghost from_gives = { λ r a. a ≡ spec.refused (number r) (place r) };
+
+    fn from(refusal: Refusal) -> Answer {
+        refused(refusal.number(), refusal.place())
     }
 }

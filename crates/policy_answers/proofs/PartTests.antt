@@ -1,10 +1,15 @@
--- The bytes of a part, by the tests that lead to each answer.
+-- The bytes of a part, by the reads that lead to them: first what is left from its start on, then its bytes of that.
 use Prim.Native.Nat.{ℕ, ◌+◌, ◌-◌, ◌≤◌, ◌<◌}
 use native.Mathlib.Omega.{arith}
-use mathlib.Core.Path.{◌≡◌, sym, ◌∙◌}
+use mathlib.Core.Path.{◌≡◌, ◌∙◌}
+use mathlib.Core.Logic.{⊎_elim}
 use mathlib.Core.List.{List, []}
-use lib.ListN.{length, take, drop, drop_of_length-le}
+use lib.ListN.{length, take, drop}
 use borrow.Author.Tests.{le-leb, lt-leb}
+use denote.Bor.{Bor}
+use Rattle.std.specs.Prelude.{Option, Some, None}
+use Rattle.std.specs.Option.{unwrap_or}
+use Rattle.std.specs.Slice.{IsGetRangeResult}
 use Rattle.policy_answers.specs.Parts.{part_at}
 use Rattle.field.proofs.Laws.{from_offset}
 
@@ -13,21 +18,26 @@ module _ (s : List ℕ) (start len : ℕ) where
   unfolding part_at
   outside h = rw (lt-leb (start + len) (length s) h)
 
-  pub part_long : length s < len → take 0 s ≡ part_at s start len
-  part_long h = outside (omega arith)
-
-  pub part_outside : len ≤ length s → length s - len < start → take 0 s ≡ part_at s start len
-  part_outside l h = outside (omega arith)
-
-  pub part_inside : len ≤ length s → start ≤ length s - len → take (start + len - start) (drop start s) ≡ part_at s start len
+  inside : start + len ≤ length s → (r x : List ℕ) → r ≡ take (length s - start) (drop start s) → x ≡ take (len - 0) (drop 0 r) → x ≡ part_at s start len
   unfolding part_at
-  part_inside l h =
-      let e : start + len - start ≡ len = omega arith in
-      rw (e, le-leb (start + len) (length s) (omega arith))
+  inside h r x e q =
+      let i : len - 0 ≡ len = omega arith in
+      rw (le-leb (start + len) (length s) h) (q ∙ rw (i, e, from_offset))
 
-module _ (s e x : List ℕ) (q : e ≡ x) where
-  pub head_only : length e < 12 → take 0 s ≡ drop 12 x
-  head_only h = rw (← q) (sym (drop_of_length-le e {i = 12} (omega arith)))
+  -- nothing is left
+  pub none_left : (o : Option (Bor (List ℕ))) → IsGetRangeResult s start (length s) o → o ≡ None → [] ≡ part_at s start len
+  none_left None h e = outside (⊎_elim (λ l. omega arith) (λ l. omega arith) h.0)
+  none_left (Some r) h e = cc
 
-  pub after_head : take (length e - 12) (drop 12 e) ≡ drop 12 x
-  after_head = from_offset e 12 ∙ rw q
+  -- r is left, and x are its first bytes, if it has so many
+  pub part_of_rest : (o : Option (Bor (List ℕ))) → IsGetRangeResult s start (length s) o → (r : Bor (List ℕ)) → o ≡ Some r
+      → (x : Option (Bor (List ℕ))) → IsGetRangeResult r.now 0 len x → (none : Bor (List ℕ)) → none.now ≡ [] → (unwrap_or x none).now ≡ part_at s start len
+  part_of_rest None g r e x h none q = cc
+  part_of_rest (Some y) g r e None h none q =
+      let i : y ≡ r = cc in
+      let l : length r.now + start ≡ length s = rw i at g.0.3 in
+      q ∙ ⊎_elim (λ b. outside (omega arith)) (λ b. outside (omega arith)) h.0
+  part_of_rest (Some y) g r e (Some x) h none q =
+      let i : y ≡ r = cc in
+      let l : length r.now + start ≡ length s = rw i at g.0.3 in
+      inside (omega (arith, h.0.1, g.0.0)) r.now x.now (rw i at g.0.2) h.0.2

@@ -3,14 +3,11 @@ use Rattle.std.specs.Prelude.{ℕ, ◌+◌, cond, length, take, eqb}
 use mathlib.Core.List.{List, [], flat_map}
 use Rattle.std.proofs.Math.Option.{Option, some, none}
 use Rattle.std.proofs.Math.ListN.{get_elem?}
-use Rattle.policy_answers.specs.declared.FileAnswer.{FileAnswer}
-use Rattle.policy_answers.specs.declared.FileAnswer.TheVariants.{Accepted, WrongSize, NotOfGrammar}
-use Rattle.policy_answers.specs.declared.ListAnswer.{ListAnswer}
-use Rattle.policy_answers.specs.declared.ListAnswer.TheVariants as lists
-use Rattle.policy_answers.specs.declared.PartAnswer.{PartAnswer}
-use Rattle.policy_answers.specs.declared.PartAnswer.TheVariants as parts
-use Rattle.policy_answers.specs.declared.ElementAnswer.{ElementAnswer}
-use Rattle.policy_answers.specs.declared.ElementAnswer.TheVariants.{Launch, Stm, Custom, Unjudged, Refused}
+use Rattle.std.specs.Prelude.{Some, None, Ok, Err}
+use Rattle.policy_answers.specs.declared.FileFault.TheVariants.{WrongSize, NotOfGrammar}
+use Rattle.policy_answers.specs.declared.ElementBody.{ElementBody}
+use Rattle.policy_answers.specs.declared.ElementBody.TheVariants.{Launch, Stm, Custom, Unjudged}
+use Rattle.policy_answers.specs.Types.{FileAnswer, ListAnswer, Signed, PartAnswer, ElementAnswer}
 use Rattle.policy_grammar.specs.Grammar.{Body, custom_type, Element, element_bytes, Signing, PolicyList, list_bytes, Reading}
 use Rattle.policy_grammar.specs.Grammar as Grammar
 use Rattle.policy_grammar.specs.Sizes.{first_list, sized}
@@ -19,8 +16,8 @@ use Rattle.policy_grammar.specs.Decode.{accepted, fault_place}
 -- a string, by its reading and the place of its first fault: 26 where its size is wrong, 27 at that place where it is not of the grammar, and else 0
 -- with the list count
 abbrev pub file_shown : List ℕ → Option Reading → ℕ → FileAnswer
-file_shown s none p = cond (sized s) (NotOfGrammar p) WrongSize
-file_shown s (some r) p = Accepted r.list_count
+file_shown s none p = Err (cond (sized s) (NotOfGrammar p) WrongSize)
+file_shown s (some r) p = Ok r.list_count
 
 -- what the reader answers of a string
 abbrev pub file_answer : List ℕ → FileAnswer
@@ -28,52 +25,68 @@ file_answer s = file_shown s (accepted s) (fault_place s)
 
 -- a list that starts at an offset, by its version, its elements size and what signs it: the elements stand 8 bytes on, and the key 4 bytes after them
 abbrev pub signing_shown : ℕ → ℕ → ℕ → Signing → ListAnswer
-signing_shown start version n Grammar.unsigned = lists.Unsigned start (8 + n) version (start + 8) n
+signing_shown start version n Grammar.unsigned =
+    Some (record { start = start; size = 8 + n; version = version; elements = start + 8; elements_size = n; signing = None })
 signing_shown start version n (Grammar.signed g) =
-    lists.Signed start (8 + n + 4 + g.key_size + g.key_size) version (start + 8) n g.counter g.key_size (start + (8 + n) + 4) (start + (8 + n) + 4 + g.key_size)
+    Some (record {
+      start = start;
+      size = 8 + n + 4 + g.key_size + g.key_size;
+      version = version;
+      elements = start + 8;
+      elements_size = n;
+      signing =
+          Some (record {
+            counter = g.counter;
+            key_size = g.key_size;
+            key = start + (8 + n) + 4;
+            signature = start + (8 + n) + 4 + g.key_size;
+          });
+    })
 
 abbrev pub list_shown : ℕ → Option PolicyList → ListAnswer
-list_shown start none = lists.Absent
+list_shown start none = None
 list_shown start (some l) = signing_shown start l.version l.elements_size l.signing
 
 abbrev pub list_size : ListAnswer → ℕ
-list_size (lists.Unsigned start size version es n) = size
-list_size (lists.Signed start size version es n c k key signature) = size
-list_size lists.Absent = 0
+list_size None = 0
+list_size (Some l) = l.size
 
--- an element that starts at an offset: of type 0x10 a launch element, of type 0x14 an STM element, of type 3 custom, of another type unjudged
-abbrev pub body_shown : ℕ → ℕ → ℕ → ℕ → Body → ElementAnswer
-body_shown start size type control (Grammar.launch b) =
-    Launch start size control b.sinit_min_version b.reserved b.digests.hash_alg b.digests.count
-body_shown start size type control (Grammar.stm d) = Stm start size control d.hash_alg d.count
-body_shown start size type control (Grammar.other b) = cond (eqb type custom_type) (Custom start size control) (Unjudged start size type control)
+-- what stands in the body of an element: of type 0x10 a launch element, of type 0x14 an STM element, of type 3 custom, of another type unjudged
+abbrev pub body_shown : ℕ → Body → ElementBody
+body_shown type (Grammar.launch b) = Launch b.sinit_min_version b.reserved b.digests.hash_alg b.digests.count
+body_shown type (Grammar.stm d) = Stm d.hash_alg d.count
+body_shown type (Grammar.other b) = cond (eqb type custom_type) Custom (Unjudged type)
 
+-- an element that starts at an offset
 abbrev pub element_shown : ℕ → Option Element → ElementAnswer
-element_shown start none = Refused
-element_shown start (some e) = body_shown start e.size e.type e.control e.body
+element_shown start none = None
+element_shown start (some e) = Some (record { start = start; size = e.size; control = e.control; body = body_shown e.type e.body })
 
 abbrev pub element_size : ElementAnswer → ℕ
-element_size (Launch start size control m v a n) = size
-element_size (Stm start size control a n) = size
-element_size (Custom start size control) = size
-element_size (Unjudged start size type control) = size
-element_size Refused = 0
+element_size None = 0
+element_size (Some e) = e.size
 
 -- the parts of a list
 abbrev pub elements_of : ListAnswer → PartAnswer
-elements_of (lists.Unsigned start size version es n) = parts.At es n
-elements_of (lists.Signed start size version es n c k key signature) = parts.At es n
-elements_of lists.Absent = parts.Absent
+elements_of None = None
+elements_of (Some l) = Some (record { start = l.elements; len = l.elements_size })
+
+-- of what signs it, if it is signed
+abbrev pub key_by : Signed → PartAnswer
+key_by None = None
+key_by (Some g) = Some (record { start = g.key; len = g.key_size })
+
+abbrev pub signature_by : Signed → PartAnswer
+signature_by None = None
+signature_by (Some g) = Some (record { start = g.signature; len = g.key_size })
 
 abbrev pub key_of : ListAnswer → PartAnswer
-key_of (lists.Signed start size version es n c k key signature) = parts.At key k
-key_of (lists.Unsigned start size version es n) = parts.Absent
-key_of lists.Absent = parts.Absent
+key_of None = None
+key_of (Some l) = key_by l.signing
 
 abbrev pub signature_of : ListAnswer → PartAnswer
-signature_of (lists.Signed start size version es n c k key signature) = parts.At signature k
-signature_of (lists.Unsigned start size version es n) = parts.Absent
-signature_of lists.Absent = parts.Absent
+signature_of None = None
+signature_of (Some l) = signature_by l.signing
 
 -- BY NUMBER, of the reading with which a string is accepted; a refused string has no lists
 

@@ -21,76 +21,66 @@ pub const LAUNCH_DIGESTS: usize = 6;
 
 pub const STM_DIGESTS: usize = 4;
 
-// What a string is: accepted, with the number of its lists, or refused, where it is not of the grammar with the offset of the first field at fault.
-// `number_of` of specs/Seen.antt gives each its number: 0, 26, 27.
+// Why a string is refused: its size, or where it is not of the grammar the offset of the first field at fault. `number_of` of specs/Seen.antt gives an
+// answer its number: 26 or 27, and 0 for the number of lists of a string that is accepted.
 #[derive(Clone, Copy)]
-pub enum FileAnswer {
-    Accepted { lists: usize },
+pub enum FileFault {
     WrongSize,
     NotOfGrammar { place: usize },
 }
 
-// A list: the offset of its first byte and how many bytes it has, its numbers, and the offsets of its elements, its key and its signature;
-// or that there is none.
+// A part of the file: the offset of its first byte and how many bytes it has.
 #[derive(Clone, Copy)]
-pub enum ListAnswer {
-    Unsigned {
-        start: usize,
-        size: usize,
-        version: usize,
-        elements: usize,
-        elements_size: usize,
-    },
-    Signed {
-        start: usize,
-        size: usize,
-        version: usize,
-        elements: usize,
-        elements_size: usize,
-        counter: usize,
-        key_size: usize,
-        key: usize,
-        signature: usize,
-    },
-    Absent,
+pub struct Part {
+    pub start: usize,
+    pub len: usize,
 }
 
-// A part of the file: the offset of its first byte and how many bytes it has; or that there is none.
+// What signs a list: its numbers, and the offsets of the key and the signature.
 #[derive(Clone, Copy)]
-pub enum PartAnswer {
-    At { start: usize, len: usize },
-    Absent,
+pub struct SigningAt {
+    pub counter: usize,
+    pub key_size: usize,
+    pub key: usize,
+    pub signature: usize,
 }
 
-// An element: the offset of its first byte, its size and its numbers; or that there is none. The body follows the first 12 bytes.
+// A list that stands in the file: the offset of its first byte and how many bytes it has, its numbers, the offset of its elements, and what signs it,
+// if it is signed.
 #[derive(Clone, Copy)]
-pub enum ElementAnswer {
+pub struct ListAt {
+    pub start: usize,
+    pub size: usize,
+    pub version: usize,
+    pub elements: usize,
+    pub elements_size: usize,
+    pub signing: Option<SigningAt>,
+}
+
+// The numbers of an element's body, by its type; `kind` is the type of one that is not judged.
+#[derive(Clone, Copy)]
+pub enum ElementBody {
     Launch {
-        start: usize,
-        size: usize,
-        control: usize,
         sinit_min_version: usize,
         reserved: usize,
         hash_alg: usize,
         count: usize,
     },
     Stm {
-        start: usize,
-        size: usize,
-        control: usize,
         hash_alg: usize,
         count: usize,
     },
-    Custom {
-        start: usize,
-        size: usize,
-        control: usize,
-    },
+    Custom,
     Unjudged {
-        start: usize,
-        size: usize,
         kind: usize,
-        control: usize,
     },
-    Refused,
+}
+
+// An element that stands in the file: the offset of its first byte, its size, its control and the numbers of its body, which follows the first 12 bytes.
+#[derive(Clone, Copy)]
+pub struct ElementAt {
+    pub start: usize,
+    pub size: usize,
+    pub control: usize,
+    pub body: ElementBody,
 }

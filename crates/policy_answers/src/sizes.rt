@@ -3,30 +3,20 @@ ghost use Rattle.std.specs.Prelude.{◌≡◌, ◌≤◌};
 ghost use Rattle.policy_grammar.specs.Grammar.{digest_length};
 ghost use Rattle.policy_answers.specs.Answers.{element_size, list_size};
 
-use crate::{ElementAnswer, ListAnswer};
+use crate::{ElementAt, ListAt};
 
 // The size of a list, 0 where there is none.
-pub fn list_size(l: ListAnswer) -> usize
+pub fn list_size(l: Option<ListAt>) -> usize
     ensures { result ≡ list_size l }
 {
-    match l {
-        ListAnswer::Unsigned { size, .. } => size,
-        ListAnswer::Signed { size, .. } => size,
-        ListAnswer::Absent => 0,
-    }
+    l.map_or(0, |l| l.size)
 }
 
 // The size of an element, 0 where there is none.
-pub fn element_size(e: ElementAnswer) -> usize
+pub fn element_size(e: Option<ElementAt>) -> usize
     ensures { result ≡ element_size e }
 {
-    match e {
-        ElementAnswer::Launch { size, .. } => size,
-        ElementAnswer::Stm { size, .. } => size,
-        ElementAnswer::Custom { size, .. } => size,
-        ElementAnswer::Unjudged { size, .. } => size,
-        ElementAnswer::Refused => 0,
-    }
+    e.map_or(0, |e| e.size)
 }
 
 // The length of a digest under an algorithm, 0 for one that is not of the grammar.

@@ -1,13 +1,15 @@
 -- `part_at` meets its contract: a part that does not fit has no bytes.
-use Rattle.policy_answers.proofs.PartTests.{part_long, part_outside, part_inside}
-use borrow.Author.Rules.{rules}
+use mathlib.Core.Path.{refl, ap, ◌∙◌}
+use denote.Bor.{Bor}
+use mathlib.Core.List.{List}
+use Prim.Native.Nat.{ℕ}
+use Rattle.policy_answers.proofs.PartTests.{none_left, part_of_rest}
 use Rattle.policy_answers.proofs.parts.part_at.Goals as goal
 
-pub returns-then-s-len : goal.returns-then-s-len
-returns-then-s-len c = search (rules, part_long)
-
-pub returns-then-s-len-2 : goal.returns-then-s-len-2
-returns-then-s-len-2 c = search (rules, part_outside)
+pub returns-in_default : goal.returns-in_default
+returns-in_default c = none_left _ _ _ _ c.get.ensures.lookup c.in_default.is
 
 pub returns : goal.returns
-returns c = search (rules, part_inside)
+returns c =
+    ap (λ (b : Bor (List ℕ)). b.now) c.unwrap_or.ensures
+    ∙ part_of_rest _ _ _ _ c.get.ensures.lookup _ c.in-Some.is _ c.get-2.ensures.lookup _ refl

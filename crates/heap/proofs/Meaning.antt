@@ -8,16 +8,16 @@ use native.Mathlib.Omega.{arith}
 use borrow.Author.Tests.{eqb-false, ne_eqb}
 use lib.Dec.{lit<, leb, eqb}
 use lib.ListN.{length}
+use Rattle.std.specs.Prelude.{Ok, Err}
 use Rattle.range.specs.Range.{highest_end}
 use Rattle.range.proofs.Ranges.{ends_exactly}
 use Rattle.rules.specs.Rules.{first_failing}
 use Rattle.rules.specs.Meaning.{AllSay}
 use Rattle.rules.proofs.Tests.{eqb_exactly, leb_exactly, or_exactly, and_exactly, ◌&◌}
 use Rattle.rules.proofs.Meaning.{Agree, agrees, all_mean}
-use Rattle.rules.proofs.Answers.{number_of_lem, value_exactly, number_exactly, number_means}
+use Rattle.rules.proofs.Refusals.{value_by, refused_by, number_by, refused_means}
 use Rattle.heap.specs.declared.OsSinitData.{OsSinitData}
-use Rattle.heap.specs.declared.HeapAnswer.TheVariants.{OsSinit, Refused}
-use Rattle.heap.specs.Heap.{os_sinit_part, least_part, version_known, low_limit, low_placed, high_placed, pmrs_placed, low_pmr, high_pmr, heap_rules, number_of, heap_fields, heap_elements, heap_of}
+use Rattle.heap.specs.Heap.{os_sinit_part, least_part, version_known, low_limit, low_placed, high_placed, pmrs_placed, low_pmr, high_pmr, heap_rules, heap_fields, heap_elements, heap_of}
 use Rattle.heap.specs.Meaning.{Supported, PmrsPlaced, HeapHolds, heap_meanings, NumberIsFirst, AcceptedExactly, RefusedExactly}
 use Rattle.heap.proofs.Sizes.{parts_exactly}
 use Rattle.heap.proofs.Elements.{elements_exactly}
@@ -51,12 +51,6 @@ supported_exactly heap =
     let both = and_exactly (leb_exactly least_part (length (os_sinit_part heap))) (version_exactly (heap_fields heap).version) in
     (λ e. let p = both.0 e in record { least = p.0; version = p.1 }, λ p. both.1 (p.least, p.version))
 
-different : (o : OsSinitData) (n : ℕ) → Refused n ≡ OsSinit o → ⊥
-different o n e = let z : ◌≡◌ {A = ℕ} 0 1 = cc in omega arith
-
-same : (m n : ℕ) → Refused m ≡ Refused n → m ≡ n
-same m n e = cc
-
 module _ (heap : List ℕ) where
   pub agree : Agree (heap_rules heap) (heap_meanings heap)
   agree =
@@ -79,19 +73,19 @@ module _ (heap : List ℕ) where
       (λ e. holds_exactly.0 (say.0 e), λ h. say.1 (holds_exactly.1 h))
 
   -- where fields are answered, no rule fails, and they are those of OsSinitData; a number is that of the first rule that fails
-  pub fields_exactly : (o : OsSinitData) → (heap_of heap ≡ OsSinit o) ↔ ((first_failing (heap_rules heap) ≡ 0) × (o ≡ heap_fields heap))
+  pub fields_exactly : (o : OsSinitData) → (heap_of heap ≡ Ok o) ↔ ((first_failing (heap_rules heap) ≡ 0) × (o ≡ heap_fields heap))
   unfolding heap_of
   fields_exactly o =
-      let answer = value_exactly Refused (OsSinit (heap_fields heap)) (OsSinit o) (different o) (first_failing (heap_rules heap)) in
-      (λ e. let h = answer.0 e in (h.0, cc), λ h. answer.1 (h.0, cc))
+      let answer = value_by (heap_fields heap) o (first_failing (heap_rules heap)) in
+      (λ e. let h = answer.0 e in (h.0, sym h.1), λ h. answer.1 (h.0, sym h.1))
 
-  pub refusal_exactly : (n : ℕ) → (heap_of heap ≡ Refused n) ↔ ((0 < n) × (first_failing (heap_rules heap) ≡ n))
+  pub refusal_exactly : (n : ℕ) → (heap_of heap ≡ Err n) ↔ ((0 < n) × (first_failing (heap_rules heap) ≡ n))
   unfolding heap_of
-  refusal_exactly n = number_exactly Refused (OsSinit (heap_fields heap)) (λ k e. different _ k (sym e)) same (first_failing (heap_rules heap)) n
+  refusal_exactly n = refused_by (heap_fields heap) (first_failing (heap_rules heap)) n
 
 pub number_is_first : NumberIsFirst
-unfolding heap_of number_of
-number_is_first heap = number_of_lem Refused (OsSinit (heap_fields heap)) number_of refl (λ n. refl) (first_failing (heap_rules heap))
+unfolding heap_of
+number_is_first heap = number_by (heap_fields heap) (first_failing (heap_rules heap))
 
 pub accepted_exactly : AcceptedExactly
 accepted_exactly heap o =
@@ -101,5 +95,4 @@ accepted_exactly heap o =
 
 pub refused_exactly : RefusedExactly
 unfolding heap_of
-refused_exactly heap n =
-    number_means Refused (OsSinit (heap_fields heap)) (heap_rules heap) (heap_meanings heap) (agree heap) (λ k e. different _ k (sym e)) same n
+refused_exactly heap n = refused_means (heap_fields heap) (heap_rules heap) (heap_meanings heap) (agree heap) n

@@ -1,12 +1,10 @@
 -- The heap by rules 2 to 5: its three parts, the fields of OsSinitData, its elements and its PMRs. All sums are whole numbers.
-use Rattle.std.specs.Prelude.{ℕ, zero, suc, ◌+◌, ◌^◌, Bool, false, cond, ◌&&◌, ◌||◌, List, [], ◌∷◌, leb, eqb, length, take, drop}
+use Rattle.std.specs.Prelude.{ℕ, zero, suc, ◌+◌, ◌^◌, Bool, false, cond, ◌&&◌, ◌||◌, List, [], ◌∷◌, leb, eqb, length, take, drop, Result, Ok, Err}
 use Rattle.field.specs.Field.{number_at}
 use Rattle.range.specs.declared.Range.{Range}
 use Rattle.range.specs.Range.{ends_by, highest_end}
 use Rattle.rules.specs.Rules.{Rule, rule, answer_by}
 use Rattle.heap.specs.declared.OsSinitData.{OsSinitData}
-use Rattle.heap.specs.declared.HeapAnswer.{HeapAnswer}
-use Rattle.heap.specs.declared.HeapAnswer.TheVariants.{OsSinit, Refused}
 
 -- "Three parts in turn: BiosData, OsMleData, OsSinitData. Each begins with a 64-bit size that counts itself". A size that does not fit is 0.
 unfoldable pub bios_data_size : List ℕ → ℕ
@@ -131,14 +129,9 @@ part_rules part =
 abbrev pub heap_rules : List ℕ → List Rule
 heap_rules heap = rule 2 (parts_fit heap) ∷ part_rules (os_sinit_part heap)
 
--- the number of each case
-unfoldable pub number_of : HeapAnswer → ℕ
-number_of (OsSinit o) = 0
-number_of (Refused n) = n
-
 -- what rules 3 to 5 answer
-unfoldable pub part_answer : List ℕ → HeapAnswer
-part_answer part = answer_by Refused (OsSinit (fields_of (after_size part))) (part_rules part)
+unfoldable pub part_answer : List ℕ → Result OsSinitData ℕ
+part_answer part = answer_by Err (Ok (fields_of (after_size part))) (part_rules part)
 
 -- the fields and the elements of the heap's OsSinitData
 abbrev pub heap_fields : List ℕ → OsSinitData
@@ -148,5 +141,5 @@ abbrev pub heap_elements : List ℕ → List ℕ
 heap_elements heap = elements_of (after_size (os_sinit_part heap))
 
 -- the fields where all rules hold, else the number of the first that fails
-unfoldable pub heap_of : List ℕ → HeapAnswer
-heap_of heap = answer_by Refused (OsSinit (heap_fields heap)) (heap_rules heap)
+unfoldable pub heap_of : List ℕ → Result OsSinitData ℕ
+heap_of heap = answer_by Err (Ok (heap_fields heap)) (heap_rules heap)

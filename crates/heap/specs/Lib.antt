@@ -2,3 +2,4 @@
 pub mod Heap
 pub mod Meaning
 pub mod Bodies
+pub mod Inner

@@ -1,11 +1,11 @@
 -- What rules 2 to 5 say of a heap, as propositions, and what the answer means.
-use Rattle.std.specs.Prelude.{ℕ, zero, suc, ◌+◌, ◌≤◌, ◌<◌, ◌≡◌, ◌↔◌, ◌⊎◌, List, [], ◌∷◌, length}
+use Rattle.std.specs.Prelude.{ℕ, zero, suc, ◌+◌, ◌≤◌, ◌<◌, ◌≡◌, ◌↔◌, ◌⊎◌, List, [], ◌∷◌, length, Ok, Err}
 use Rattle.range.specs.Range.{end_of, highest_end}
 use Rattle.rules.specs.Rules.{first_failing}
 use Rattle.rules.specs.Meaning.{Meaning, meaning, FirstBroken}
+use Rattle.rules.specs.Refusal.{number_of}
 use Rattle.heap.specs.declared.OsSinitData.{OsSinitData}
-use Rattle.heap.specs.declared.HeapAnswer.TheVariants.{OsSinit, Refused}
-use Rattle.heap.specs.Heap.{bios_data_size, os_mle_data_size, os_sinit_data_at, os_sinit_data_size, least_size, os_sinit_part, least_part, heap_fields, heap_elements, type_at, size_at, low_pmr, high_pmr, low_limit, heap_rules, number_of, heap_of}
+use Rattle.heap.specs.Heap.{bios_data_size, os_mle_data_size, os_sinit_data_at, os_sinit_data_size, least_size, os_sinit_part, least_part, heap_fields, heap_elements, type_at, size_at, low_pmr, high_pmr, low_limit, heap_rules, heap_of}
 
 -- rule 2
 pub record PartsFit (heap : List ℕ) : Type 0 where
@@ -69,8 +69,8 @@ NumberIsFirst = (heap : List ℕ) → number_of (heap_of heap) ≡ first_failing
 
 -- the answer is the fields of OsSinitData exactly where all rules hold
 abbrev pub AcceptedExactly : Type 0
-AcceptedExactly = (heap : List ℕ) (o : OsSinitData) → (heap_of heap ≡ OsSinit o) ↔ (HeapHolds heap × (o ≡ heap_fields heap))
+AcceptedExactly = (heap : List ℕ) (o : OsSinitData) → (heap_of heap ≡ Ok o) ↔ (HeapHolds heap × (o ≡ heap_fields heap))
 
 -- a number is answered exactly where it is that of the first rule that is broken
 abbrev pub RefusedExactly : Type 0
-RefusedExactly = (heap : List ℕ) (n : ℕ) → (heap_of heap ≡ Refused n) ↔ FirstBroken (heap_meanings heap) n
+RefusedExactly = (heap : List ℕ) (n : ℕ) → (heap_of heap ≡ Err n) ↔ FirstBroken (heap_meanings heap) n

@@ -2,9 +2,12 @@
 #![tactic(auto)]
 
 ghost use Rattle.std.specs.Prelude.{◌≡◌};
+ghost use Rattle.rules.specs.Refusal.{numbered};
+ghost use Rattle.heap.specs.Inner.{part_end};
 ghost use Rattle.heap.specs.Heap.{size_fits, fields_of, version_known, elements_end, low_placed, high_placed, pmrs_placed, part_answer, heap_of};
 
 use range::Range;
+use rules::{Refusal, require};
 
 // The fields of OsSinitData, in its order.
 #[derive(Clone, Copy)]
@@ -22,13 +25,6 @@ pub struct OsSinitData {
     pub policy_file_size: u64,
     pub capabilities: u64,
     pub rsdp: u64,
-}
-
-// The fields of OsSinitData, or the number of the rule that refuses the heap.
-#[derive(Clone, Copy)]
-pub enum HeapAnswer {
-    OsSinit(OsSinitData),
-    Refused(u32),
 }
 
 // The least size of a part and of an element, which counts the bytes of the size.
@@ -137,44 +133,33 @@ fn placed(o: OsSinitData) -> bool
 }
 
 // Rules 3 to 5, of the bytes of OsSinitData.
-fn judge(part: &[u8]) -> HeapAnswer
-    ensures { result ≡ part_answer part.now }
+fn judge(part: &[u8]) -> Result<OsSinitData, Refusal>
+    ensures { numbered result ≡ part_answer part.now }
 {
-    if part.len() < LEAST_PART {
-        return HeapAnswer::Refused(3);
-    }
+    require(LEAST_PART <= part.len(), Refusal::OsSinitData)?;
     let s = &part[SIZE_WIDTH..];
     let o = fields(s);
-    if !known(o.version) {
-        return HeapAnswer::Refused(3);
-    }
-    if !elements_end(&s[ELEMENTS..]) {
-        return HeapAnswer::Refused(4);
-    }
-    if !placed(o) {
-        return HeapAnswer::Refused(5);
-    }
-    HeapAnswer::OsSinit(o)
+    require(known(o.version), Refusal::OsSinitData)?;
+    require(elements_end(&s[ELEMENTS..]), Refusal::HeapElements)?;
+    require(placed(o), Refusal::Pmr)?;
+    Ok(o)
 }
 
-// The fields of OsSinitData, or the number of the first of rules 2 to 5 that fails.
-pub fn read(heap: &[u8]) -> HeapAnswer
-    ensures { result ≡ heap_of heap.now }
+// Where the part that begins at `at` ends, which is inside the heap.
+fn part_end(heap: &[u8], at: usize) -> Result<usize, Refusal>
+    ensures { result ≡ part_end heap.now at }
 {
-    let bios = field::number_or_zero(heap, 0, SIZE_WIDTH);
-    if !size_fits(0, bios, heap.len()) {
-        return HeapAnswer::Refused(2);
-    }
-    let os_mle_at = bios as usize;
-    let os_mle = field::number_or_zero(heap, os_mle_at, SIZE_WIDTH);
-    if !size_fits(os_mle_at, os_mle, heap.len()) {
-        return HeapAnswer::Refused(2);
-    }
-    let at = os_mle_at + os_mle as usize;
     let size = field::number_or_zero(heap, at, SIZE_WIDTH);
-    if !size_fits(at, size, heap.len()) {
-        return HeapAnswer::Refused(2);
-    }
-    let end = at + size as usize;
-    judge(&heap[at..end])
+    require(size_fits(at, size, heap.len()), Refusal::HeapParts)?;
+    Ok(at + size as usize)
+}
+
+// The fields of OsSinitData, or the first of rules 2 to 5 that fails.
+pub fn read(heap: &[u8]) -> Result<OsSinitData, Refusal>
+    ensures { numbered result ≡ heap_of heap.now }
+{
+    let os_mle = part_end(heap, 0)?;
+    let os_sinit = part_end(heap, os_mle)?;
+    let end = part_end(heap, os_sinit)?;
+    judge(&heap[os_sinit..end])
 }

@@ -112,3 +112,17 @@ module _ {A : Type 0} where
     module _ (rs : List Rule) (ps : List Meaning) (agree : Agree rs ps) where
       pub refused_means : (n : ℕ) → (answer_by Err (Ok a) rs ≡ Err n) ↔ FirstBroken ps n
       refused_means n = number_means Err (Ok a) rs ps agree (λ m e. never e) (λ m n e. same_number e) n
+
+-- WHERE `require` STOPPED OR WENT ON, by what it ensures of its result
+
+pub failed : (b : Bool) (x : Refusal) {e : Refusal} → ◌≡◌ {A = Step} (Err e) (cond b (Ok tt) (Err x)) → (b ≡ false) × (e ≡ x)
+failed b x q = stops b x q refl
+
+pub held : (b : Bool) (x : Refusal) {u : ⊤} → ◌≡◌ {A = Step} (Ok u) (cond b (Ok tt) (Err x)) → b ≡ true
+held b x {u} q = goes_on b x u q refl
+
+-- what a `?` returns where a rule fails: its refusal
+pub rule_at : {A : Type 0} (a : A) (k : ℕ) (b : Bool) (x : Refusal) {r : Result A Refusal} {e : Refusal}
+    → ((y : Refusal) × (r ≡ Err y) × (y ≡ e)) → ◌≡◌ {A = Step} (Err e) (cond b (Ok tt) (Err x)) → (b ≡ false → number x ≡ k)
+    → numbered r ≡ answer_for Err (Ok a) k
+rule_at a k b x p q f = let h = failed b x q in refusal_at a k p (ap number h.1 ∙ f h.0)

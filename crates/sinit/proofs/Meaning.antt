@@ -1,29 +1,22 @@
 -- The answer gives the values exactly where every rule holds, and a number exactly where it is that of the first rule that is broken.
 use Prim.Native.Nat.{ℕ, ◌<◌}
-use mathlib.Core.Path.{◌≡◌, refl, sym}
+use mathlib.Core.Path.{◌≡◌, sym}
 use mathlib.Core.Logic.{◌↔◌}
 use mathlib.Core.Bool.{true}
 use mathlib.Core.List.{List}
-use native.Mathlib.Omega.{arith}
 use borrow.Author.Tests.{leb-true, le-leb}
 use lib.Dec.{lit<}
+use Rattle.std.specs.Prelude.{Ok, Err}
 use Rattle.rules.specs.Rules.{Rule, first_failing}
 use Rattle.rules.specs.Meaning.{Meaning, AllSay}
 use Rattle.rules.proofs.Tests.{◌&◌}
 use Rattle.rules.proofs.Meaning.{Agree, agrees, all_mean}
-use Rattle.rules.proofs.Answers.{number_of_lem, value_exactly, number_exactly, number_means}
+use Rattle.rules.proofs.Refusals.{value_by, refused_by, number_by, refused_means}
 use Rattle.sinit.specs.declared.Chipset.{Chipset}
 use Rattle.sinit.specs.declared.ModuleData.{ModuleData}
-use Rattle.sinit.specs.declared.ModuleAnswer.TheVariants.{Module, Refused}
-use Rattle.sinit.specs.Rules.{supported, rules, values_of, module_of, number_of}
+use Rattle.sinit.specs.Rules.{supported, rules, values_of, module_of}
 use Rattle.sinit.specs.Meaning.{Supported, ModuleHolds, meanings, NumberIsFirst, AcceptedExactly, RefusedExactly}
 use Rattle.sinit.proofs.Conditions.{place_exactly, header_exactly, gdt_exactly, entry_exactly, selector_exactly, table_exactly, list_exactly, listed_exactly}
-
-different : (values : ModuleData) (n : ℕ) → Refused n ≡ Module values → ⊥
-different values n e = let z : ◌≡◌ {A = ℕ} 0 1 = cc in omega arith
-
-same : (m n : ℕ) → Refused m ≡ Refused n → m ≡ n
-same m n e = cc
 
 supported_exactly : (m : List ℕ) (os_sinit_data : ℕ) → (supported m os_sinit_data ≡ true) ↔ Supported m os_sinit_data
 unfolding supported
@@ -72,20 +65,19 @@ module _ (m : List ℕ) (base capacity : ℕ) (c : Chipset) (os_sinit_data : ℕ
       (λ e. holds_exactly.0 (say.0 e), λ h. say.1 (holds_exactly.1 h))
 
   -- where the values are answered, no rule fails, and they are those of the module; a number is that of the first rule that fails
-  pub values_exactly : (values : ModuleData) → (module_of m base capacity c os_sinit_data ≡ Module values) ↔ ((first_failing rs ≡ 0) × (values ≡ values_of m))
+  pub values_exactly : (values : ModuleData) → (module_of m base capacity c os_sinit_data ≡ Ok values) ↔ ((first_failing rs ≡ 0) × (values ≡ values_of m))
   unfolding module_of
   values_exactly values =
-      let answer = value_exactly Refused (Module (values_of m)) (Module values) (different values) (first_failing rs) in
-      (λ e. let h = answer.0 e in (h.0, cc), λ h. answer.1 (h.0, cc))
+      let answer = value_by (values_of m) values (first_failing rs) in
+      (λ e. let h = answer.0 e in (h.0, sym h.1), λ h. answer.1 (h.0, sym h.1))
 
-  pub refusal_exactly : (n : ℕ) → (module_of m base capacity c os_sinit_data ≡ Refused n) ↔ ((0 < n) × (first_failing rs ≡ n))
+  pub refusal_exactly : (n : ℕ) → (module_of m base capacity c os_sinit_data ≡ Err n) ↔ ((0 < n) × (first_failing rs ≡ n))
   unfolding module_of
-  refusal_exactly n = number_exactly Refused (Module (values_of m)) (λ k e. different _ k (sym e)) same (first_failing rs) n
+  refusal_exactly n = refused_by (values_of m) (first_failing rs) n
 
 pub number_is_first : NumberIsFirst
 unfolding module_of
-number_is_first m base capacity c os_sinit_data =
-    number_of_lem Refused (Module (values_of m)) number_of refl (λ n. refl) (first_failing (rs m base capacity c os_sinit_data))
+number_is_first m base capacity c os_sinit_data = number_by (values_of m) (first_failing (rs m base capacity c os_sinit_data))
 
 pub accepted_exactly : AcceptedExactly
 accepted_exactly m base capacity c os_sinit_data values =
@@ -96,5 +88,4 @@ accepted_exactly m base capacity c os_sinit_data values =
 pub refused_exactly : RefusedExactly
 unfolding module_of
 refused_exactly m base capacity c os_sinit_data n =
-    number_means Refused (Module (values_of m)) (rs m base capacity c os_sinit_data) (ps m base capacity c os_sinit_data) (agree m base capacity c os_sinit_data)
-    (λ k e. different _ k (sym e)) same n
+    refused_means (values_of m) (rs m base capacity c os_sinit_data) (ps m base capacity c os_sinit_data) (agree m base capacity c os_sinit_data) n

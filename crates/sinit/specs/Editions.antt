@@ -1,10 +1,9 @@
 -- What the editions of the header mean: their least lengths, which of them a version picks, and that no header that passes rule 7 mixes them. The sentences
 -- in quotes are those of request (viii). Each statement is proved under the same name in small letters in proofs/Editions.antt.
-use Rattle.std.specs.Prelude.{ℕ, ◌+◌, ◌*◌, ◌%◌, ◌≤◌, ◌<◌, ◌≡◌, ◌↔◌, List, length}
+use Rattle.std.specs.Prelude.{ℕ, ◌+◌, ◌*◌, ◌%◌, ◌≤◌, ◌<◌, ◌≡◌, ◌↔◌, List, length, Err}
 use Rattle.rules.specs.Rules.{Every, Some}
 use Rattle.sinit.specs.declared.Chipset.{Chipset}
 use Rattle.sinit.specs.declared.header.Edition.{Edition}
-use Rattle.sinit.specs.declared.ModuleAnswer.TheVariants.{Refused}
 use Rattle.sinit.specs.Module.{length_unit, table_size, first, second, editions, edition_of}
 use Rattle.sinit.specs.Module.{type, chipset_module, header_len, version, vendor, intel, size, key_size}
 use Rattle.sinit.specs.Rules.{module_of}
@@ -34,7 +33,7 @@ pub record LeastByVersion : Type 0 where
 abbrev pub ShortRefused : Type 0
 ShortRefused =
     (m : List ℕ) (base capacity : ℕ) (c : Chipset) (os_sinit_data : ℕ)
-    → length m < (edition_of m).least_length → module_of m base capacity c os_sinit_data ≡ Refused 6
+    → length m < (edition_of m).least_length → module_of m base capacity c os_sinit_data ≡ Err 6
 
 -- the fields of a header that an edition settles are those of its row
 pub record OfEdition (m : List ℕ) (row : Edition) : Type 0 where

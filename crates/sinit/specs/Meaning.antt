@@ -1,18 +1,18 @@
 -- Rules 6 to 11 as plain propositions, in their order, and what the answer says of them.
-use Rattle.std.specs.Prelude.{ℕ, ◌+◌, ◌*◌, ◌%◌, ◌≤◌, ◌<◌, ◌≡◌, ◌↔◌, List, [], ◌∷◌, length, take, drop}
+use Rattle.std.specs.Prelude.{ℕ, ◌+◌, ◌*◌, ◌%◌, ◌≤◌, ◌<◌, ◌≡◌, ◌↔◌, List, [], ◌∷◌, length, take, drop, Ok, Err}
 use Rattle.std.specs.Int.Bits.{bit_and}
 use Rattle.range.specs.Range.{page_size}
 use Rattle.rules.specs.Rules.{first_failing}
 use Rattle.rules.specs.Meaning.{Meaning, meaning, FirstBroken}
+use Rattle.rules.specs.Refusal.{number_of}
 use Rattle.sinit.specs.declared.Chipset.{Chipset}
 use Rattle.sinit.specs.declared.ModuleData.{ModuleData}
-use Rattle.sinit.specs.declared.ModuleAnswer.TheVariants.{Module, Refused}
 use Rattle.sinit.specs.Module.{length_unit, highest_module_end, edition_of}
 use Rattle.sinit.specs.Module.{type, chipset_module, header_len, version, vendor, intel, size, key_size}
 use Rattle.sinit.specs.Module.{E, gdt_limit, gdt_limit_end, gdt_base_ptr, entry_point, seg_sel, descriptor_size, second_end}
 use Rattle.sinit.specs.Module.{table_size, uuid, table_type, sinit_table, table_length, chipset_list, os_sinit_data_ver}
 use Rattle.sinit.specs.Module.{count_size, count, most_entries, entry_size, entry_at, entry_flags, entry_vendor, entry_device, entry_revision}
-use Rattle.sinit.specs.Rules.{rules, values_of, module_of, number_of}
+use Rattle.sinit.specs.Rules.{rules, values_of, module_of}
 
 -- 6
 pub record Place (m : List ℕ) (base capacity : ℕ) : Type 0 where
@@ -112,10 +112,10 @@ NumberIsFirst =
 abbrev pub AcceptedExactly : Type 0
 AcceptedExactly =
     (m : List ℕ) (base capacity : ℕ) (c : Chipset) (os_sinit_data : ℕ) (values : ModuleData)
-    → (module_of m base capacity c os_sinit_data ≡ Module values) ↔ (ModuleHolds m base capacity c os_sinit_data × (values ≡ values_of m))
+    → (module_of m base capacity c os_sinit_data ≡ Ok values) ↔ (ModuleHolds m base capacity c os_sinit_data × (values ≡ values_of m))
 
 -- a number is answered exactly where it is that of the first rule that is broken
 abbrev pub RefusedExactly : Type 0
 RefusedExactly =
     (m : List ℕ) (base capacity : ℕ) (c : Chipset) (os_sinit_data n : ℕ)
-    → (module_of m base capacity c os_sinit_data ≡ Refused n) ↔ FirstBroken (meanings m base capacity c os_sinit_data) n
+    → (module_of m base capacity c os_sinit_data ≡ Err n) ↔ FirstBroken (meanings m base capacity c os_sinit_data) n

@@ -1,13 +1,11 @@
 -- Rules 6 to 11, in the order they are tried, and the answer: the number of the first that fails, or the module's values. All sums are whole numbers.
-use Rattle.std.specs.Prelude.{ℕ, zero, suc, ◌+◌, ◌*◌, ◌%◌, Bool, false, cond, not, ◌||◌, List, [], ◌∷◌, leb, ltb, eqb, length}
+use Rattle.std.specs.Prelude.{ℕ, zero, suc, ◌+◌, ◌*◌, ◌%◌, Bool, false, cond, not, ◌||◌, List, [], ◌∷◌, leb, ltb, eqb, length, Result, Ok, Err}
 use Rattle.std.specs.Int.Bits.{bit_and}
 use Rattle.field.specs.Field.{marked_at}
 use Rattle.range.specs.Range.{inside_of, ends_by, page_size}
 use Rattle.rules.specs.Rules.{Rule, rule, all, answer_by}
 use Rattle.sinit.specs.declared.Chipset.{Chipset}
 use Rattle.sinit.specs.declared.ModuleData.{ModuleData}
-use Rattle.sinit.specs.declared.ModuleAnswer.{ModuleAnswer}
-use Rattle.sinit.specs.declared.ModuleAnswer.TheVariants.{Module, Refused}
 use Rattle.sinit.specs.Module.{length_unit, highest_module_end, edition_of}
 use Rattle.sinit.specs.Module.{type, chipset_module, header_len, version, flags, vendor, intel, size, key_size}
 use Rattle.sinit.specs.Module.{E, gdt_limit, gdt_limit_end, gdt_base_ptr, entry_point, seg_sel, descriptor_size, second_end}
@@ -132,10 +130,5 @@ values_of m =
     }
 
 -- the values where all rules hold, else the number of the first that fails
-unfoldable pub module_of : List ℕ → ℕ → ℕ → Chipset → ℕ → ModuleAnswer
-module_of m base capacity c os_sinit_data = answer_by Refused (Module (values_of m)) (rules m base capacity c os_sinit_data)
-
--- the number of an answer
-abbrev pub number_of : ModuleAnswer → ℕ
-number_of (Module values) = 0
-number_of (Refused n) = n
+unfoldable pub module_of : List ℕ → ℕ → ℕ → Chipset → ℕ → Result ModuleData ℕ
+module_of m base capacity c os_sinit_data = answer_by Err (Ok (values_of m)) (rules m base capacity c os_sinit_data)

@@ -1,4 +1,4 @@
-// The SINIT module: the number of the first of rules 6 to 11 that fails, or the values of the module that later rules read.
+// The SINIT module: the first of rules 6 to 11 that fails, or the values of the module that later rules read.
 #![tactic(auto)]
 
 mod header;
@@ -6,10 +6,12 @@ mod table;
 
 ghost use Rattle.std.specs.Prelude.{◌≡◌};
 ghost use Rattle.rules.specs.Rules.{first_failing};
+ghost use Rattle.rules.specs.Refusal.{numbered, failing};
 ghost use Rattle.sinit.specs.Rules.{rules, module_of};
 
 use header::{entry_holds, gdt_holds, header_holds, place_holds, selector_holds};
-use table::{table_fault, values};
+use rules::{Refusal, require};
+use table::{judge_table, values};
 
 // What the platform says of its chipset.
 #[derive(Clone, Copy)]
@@ -28,43 +30,35 @@ pub struct ModuleData {
     pub acm_version: u64,
 }
 
-// The values of a module for which all rules hold, or the number of the first rule that fails.
-#[derive(Clone, Copy)]
-pub enum ModuleAnswer {
-    Module(ModuleData),
-    Refused(u32),
+// Rules 6 to 11, in this order.
+fn judge(
+    acm: &[u8],
+    base: u64,
+    capacity: u64,
+    chipset: Chipset,
+    version: u64,
+) -> Result<(), Refusal>
+    ensures { failing result ≡ first_failing (rules acm.now base capacity chipset version) }
+{
+    require(place_holds(acm, base, capacity), Refusal::ModulePlace)?;
+    require(header_holds(acm), Refusal::ModuleHeader)?;
+    require(gdt_holds(acm), Refusal::ModuleEntry)?;
+    require(entry_holds(acm), Refusal::ModuleEntry)?;
+    require(selector_holds(acm), Refusal::ModuleEntry)?;
+    judge_table(acm, chipset, version)
 }
 
-// The number of the first rule that fails, 0 where all hold.
-fn fault(acm: &[u8], base: u64, capacity: u64, chipset: Chipset, version: u64) -> u32
-    ensures { result ≡ first_failing (rules acm.now base capacity chipset version) }
+// The values of the module at a base, under a capacity of the ACRAM, for a chipset and a version of OsSinitData, or the first of rules 6 to 11 that
+// fails.
+pub fn read(
+    acm: &[u8],
+    base: u64,
+    capacity: u64,
+    chipset: Chipset,
+    version: u64,
+) -> Result<ModuleData, Refusal>
+    ensures { numbered result ≡ module_of acm.now base capacity chipset version }
 {
-    if !place_holds(acm, base, capacity) {
-        return 6;
-    }
-    if !header_holds(acm) {
-        return 7;
-    }
-    if !gdt_holds(acm) {
-        return 8;
-    }
-    if !entry_holds(acm) {
-        return 8;
-    }
-    if !selector_holds(acm) {
-        return 8;
-    }
-    table_fault(acm, chipset, version)
-}
-
-// The answer for the module at a base, under a capacity of the ACRAM, for a chipset and a version of OsSinitData.
-pub fn read(acm: &[u8], base: u64, capacity: u64, chipset: Chipset, version: u64) -> ModuleAnswer
-    ensures { result ≡ module_of acm.now base capacity chipset version }
-{
-    let n = fault(acm, base, capacity, chipset, version);
-    if n == 0 {
-        ModuleAnswer::Module(values(acm))
-    } else {
-        ModuleAnswer::Refused(n)
-    }
+    judge(acm, base, capacity, chipset, version)?;
+    Ok(values(acm))
 }

@@ -2,6 +2,7 @@
 ghost use Rattle.std.specs.Prelude.{◌≡◌, ◌+◌, ◌^◌, ◌<◌, ◌≤◌};
 ghost use Rattle.field.specs.Field.{number_at};
 ghost use Rattle.rules.specs.Rules.{first_failing};
+ghost use Rattle.rules.specs.Refusal.{failing};
 ghost use Rattle.sinit.specs.Module.{E, chipset_list, os_sinit_data_ver, count};
 ghost use Rattle.sinit.specs.Rules as spec;
 ghost use Rattle.rules.specs.Rules.{all};
@@ -11,6 +12,7 @@ use crate::header::header_end;
 use crate::{Chipset, ModuleData};
 use field::number_or_zero;
 use range::Range;
+use rules::{Refusal, require};
 
 const TABLE_SIZE: u64 = 44;
 
@@ -150,23 +152,14 @@ fn version_supported(acm: &[u8], version: u64) -> bool
     version <= os_sinit_data_ver(acm)
 }
 
-// The number of the first of rules 9 to 11 that fails, 0 where all hold.
-pub(crate) fn table_fault(acm: &[u8], chipset: Chipset, version: u64) -> u32
-    ensures { result ≡ first_failing (table_rules acm.now chipset version) }
+// Rules 9 to 11, in this order.
+pub(crate) fn judge_table(acm: &[u8], chipset: Chipset, version: u64) -> Result<(), Refusal>
+    ensures { failing result ≡ first_failing (table_rules acm.now chipset version) }
 {
-    if !table_holds(acm) {
-        return 9;
-    }
-    if !list_holds(acm) {
-        return 9;
-    }
-    if !chipset_listed(acm, chipset) {
-        return 10;
-    }
-    if !version_supported(acm, version) {
-        return 11;
-    }
-    0
+    require(table_holds(acm), Refusal::ModuleTable)?;
+    require(list_holds(acm), Refusal::ModuleTable)?;
+    require(chipset_listed(acm, chipset), Refusal::Chipset)?;
+    require(version_supported(acm, version), Refusal::OsSinitDataVersion)
 }
 
 // The values of the module that later rules read.

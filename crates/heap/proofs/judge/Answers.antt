@@ -1,70 +1,84 @@
--- `judge` meets its contract: each `return` gives the number of the first rule that fails, or the fields.
-use Prim.Native.Nat.{ℕ, ◌-◌, ◌≤◌, ◌<◌}
-use mathlib.Core.Path.{◌≡◌, refl, ◌∙◌}
+-- `judge` meets its contract: each rule that fails gives its refusal, and after the last there are the fields.
+use Prim.Native.Nat.{ℕ, ◌-◌}
+use mathlib.Core.Path.{◌≡◌, refl, ap, ◌∙◌}
 use mathlib.Core.Bool.{Bool, true, false, cond}
 use mathlib.Core.List.{List}
-use borrow.Author.Rules.{rules}
-use borrow.Author.Tests.{le-leb, lt-leb}
+use lib.Dec.{leb}
 use lib.ListN.{length, take, drop}
+use Rattle.std.specs.Prelude.{Ok}
+use Rattle.std.proofs.lemmas.Result.{err_from_is_err_and}
 use Rattle.field.proofs.Laws.{from_offset}
-use Rattle.rules.specs.Rules.{answer_for}
+use Rattle.rules.specs.Refusal.{numbered}
+use Rattle.rules.specs.Rules.{first_failing}
+use Rattle.rules.proofs.Refusals.{held, rule_at, value_after}
 use Rattle.heap.specs.declared.OsSinitData.{OsSinitData}
-use Rattle.heap.specs.declared.HeapAnswer.TheVariants.{OsSinit, Refused}
-use Rattle.heap.specs.Heap.{fields_of, after_size, version_known, elements_end, pmrs_placed, part_answer}
+use Rattle.heap.specs.Heap.{fields_of, after_size, version_known, elements_end, pmrs_placed, part_rules, part_answer}
 use Rattle.heap.proofs.judge.Goals as goal
 
-short : (part : List ℕ) → length part < 108 → Refused 3 ≡ part_answer part
-unfolding part_answer answer_for
-short part h = rw (lt-leb 108 (length part) h)
+abbrev number : List ℕ → ℕ
+number part = first_failing (part_rules part)
 
--- the tests in turn, in the code's terms, each with the answer that is left to decide
-module _ (part s : List ℕ) (o : OsSinitData) (is-rest : s ≡ take (length part - 8) (drop 8 part)) (long : 108 ≤ length part)
+short : (part : List ℕ) → leb 108 (length part) ≡ false → 3 ≡ number part
+short part h = rw h
+
+-- the tests in turn, in the code's terms, each with the number that is left to decide
+module _ (part s : List ℕ) (o : OsSinitData) (is-rest : s ≡ take (length part - 8) (drop 8 part)) (long : leb 108 (length part) ≡ true)
     (is-fields : o ≡ fields_of s) (k : Bool) (is_known : k ≡ version_known o.version) where
   after : s ≡ after_size part
   after = is-rest ∙ from_offset part 8
 
-  from_version : part_answer part ≡ answer_for Refused (OsSinit o) (cond k (cond (elements_end (drop 92 s)) (cond (pmrs_placed o) 0 5) 4) 3)
-  unfolding part_answer
-  from_version = rw (le-leb 108 (length part) long, ← after, ← is-fields, ← is_known)
+  from_version : number part ≡ cond k (cond (elements_end (drop 92 s)) (cond (pmrs_placed o) 0 5) 4) 3
+  from_version = rw (long, ← after, ← is-fields, ← is_known)
 
-  unknown : k ≡ false → Refused 3 ≡ part_answer part
-  unfolding answer_for
+  unknown : k ≡ false → 3 ≡ number part
   unknown n = rw (from_version, n)
 
   module _ (known : k ≡ true) (e : Bool) (is-end : e ≡ elements_end (take (length s - 92) (drop 92 s))) where
-    from_elements : part_answer part ≡ answer_for Refused (OsSinit o) (cond e (cond (pmrs_placed o) 0 5) 4)
+    from_elements : number part ≡ cond e (cond (pmrs_placed o) 0 5) 4
     from_elements = rw (from_version, known, is-end, from_offset s 92)
 
-    unended : e ≡ false → Refused 4 ≡ part_answer part
-    unfolding answer_for
+    unended : e ≡ false → 4 ≡ number part
     unended n = rw (from_elements, n)
 
     module _ (ended : e ≡ true) (p : Bool) (is_placed : p ≡ pmrs_placed o) where
-      from_pmrs : part_answer part ≡ answer_for Refused (OsSinit o) (cond p 0 5)
+      from_pmrs : number part ≡ cond p 0 5
       from_pmrs = rw (from_elements, ended, is_placed)
 
-      misplaced : p ≡ false → Refused 5 ≡ part_answer part
-      unfolding answer_for
+      misplaced : p ≡ false → 5 ≡ number part
       misplaced n = rw (from_pmrs, n)
 
-      accepted : p ≡ true → OsSinit o ≡ part_answer part
-      unfolding answer_for
-      accepted n = rw (from_pmrs, n)
+      accepted : p ≡ true → numbered (Ok o) ≡ part_answer part
+      unfolding part_answer
+      accepted n = let e : 0 ≡ number part = rw (from_pmrs, n) in rw (is-fields ∙ ap fields_of after) (value_after (fields_of (after_size part)) (number part) e)
 
-pub returns-then-part-lt-LEAST_PART : goal.returns-then-part-lt-LEAST_PART
-returns-then-part-lt-LEAST_PART c = search (rules, short)
+pub returns-in_err-require : goal.returns-in_err-require
+unfolding part_answer
+returns-in_err-require c =
+    rule_at _ _ _ _ (err_from_is_err_and c.from_residual.result c.from_residual.ensures.1) c.in_err-require.ensures (short _)
 
-pub returns-then-not-known : goal.returns-then-not-known
-returns-then-not-known c = search (rules, unknown)
+pub returns-in_err-require-2 : goal.returns-in_err-require-2
+unfolding part_answer
+returns-in_err-require-2 c =
+    let from = c.from_residual-in_err-require-2 in
+    rule_at _ _ _ _ (err_from_is_err_and from.result from.ensures.1) c.in_err-require-2.ensures
+    (unknown _ _ _ refl (held _ _ c.in_ok-require.ensures) c.fields-o.ensures _ c.known.ensures)
 
-pub returns-then-not-elements_end : goal.returns-then-not-elements_end
-returns-then-not-elements_end c = search (rules, unended)
+pub returns-in_err-require-3 : goal.returns-in_err-require-3
+unfolding part_answer
+returns-in_err-require-3 c =
+    let from = c.from_residual-in_err-require-3 in
+    rule_at _ _ _ _ (err_from_is_err_and from.result from.ensures.1) c.in_err-require-3.ensures
+    (unended _ _ _ refl (held _ _ c.in_ok-require.ensures) c.fields-o.ensures _ c.known.ensures (held _ _ c.in_ok-require-2.ensures) _ c.elements_end.ensures)
 
-pub returns-then-not-placed : goal.returns-then-not-placed
-returns-then-not-placed c = search (rules, misplaced)
+pub returns-in_err-require-4 : goal.returns-in_err-require-4
+unfolding part_answer
+returns-in_err-require-4 c =
+    let from = c.from_residual-in_err-require-4 in
+    rule_at _ _ _ _ (err_from_is_err_and from.result from.ensures.1) c.in_err-require-4.ensures
+    (misplaced _ _ _ refl (held _ _ c.in_ok-require.ensures) c.fields-o.ensures _ c.known.ensures (held _ _ c.in_ok-require-2.ensures) _ c.elements_end.ensures
+    (held _ _ c.in_ok-require-3.ensures) _ c.placed.ensures)
 
 pub returns : goal.returns
 returns c =
-    accepted _ _ _ refl c.if-part-lt-LEAST_PART.false c.fields-o.ensures _ c.known.ensures
-    c.if-not-known.false _ c.elements_end.ensures c.if-not-elements_end.false _ c.placed.ensures
-    c.if-not-placed.false
+    accepted _ _ _ refl (held _ _ c.in_ok-require.ensures) c.fields-o.ensures _ c.known.ensures (held _ _ c.in_ok-require-2.ensures) _ c.elements_end.ensures
+    (held _ _ c.in_ok-require-3.ensures) _ c.placed.ensures (held _ _ c.in_ok-require-4.ensures)

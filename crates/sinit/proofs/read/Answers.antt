@@ -1,15 +1,13 @@
--- `read` meets its contract: 0 gives the values, and every other number is a refusal.
-use mathlib.Core.Path.{ap, sym, ◌∙◌}
-use Rattle.rules.specs.Rules.{answer_for}
-use Rattle.rules.proofs.Answers.{for_zero, for_other}
-use Rattle.sinit.specs.declared.ModuleAnswer.TheVariants.{Module, Refused}
+-- `read` meets its contract: the first rule that fails refuses the module, else its values are answered.
+use Rattle.std.proofs.lemmas.Result.{err_from_is_err_and}
+use Rattle.rules.proofs.Refusals.{refusal_at, value_after}
 use Rattle.sinit.specs.Rules.{module_of}
 use Rattle.sinit.proofs.read.Goals as goal
 
-pub returns-then-n-eq0 : goal.returns-then-n-eq0
+pub returns-in_err-judge : goal.returns-in_err-judge
 unfolding module_of
-returns-then-n-eq0 c = ap Module c.values.ensures ∙ sym (for_zero Refused _ _ (sym c.fault-n.ensures ∙ c.if-n-eq0.true))
+returns-in_err-judge c = refusal_at _ _ (err_from_is_err_and c.from_residual.result c.from_residual.ensures.1) c.in_err-judge.ensures
 
-pub returns-else-n-eq0 : goal.returns-else-n-eq0
+pub returns : goal.returns
 unfolding module_of
-returns-else-n-eq0 c = sym (ap (answer_for Refused _) (sym c.fault-n.ensures) ∙ for_other Refused _ _ c.if-n-eq0.false)
+returns c = rw c.values.ensures (value_after _ _ c.in_ok-judge.ensures)

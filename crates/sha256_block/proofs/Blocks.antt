@@ -1,23 +1,13 @@
--- What is left to hash of a string, after k of its n blocks.
-use Rattle.std.proofs.Common.{◌≡◌, ℕ, zero, suc, ◌+◌, ◌-◌, ◌*◌, ◌<◌, ◌≤◌, List, take, drop, sym, ap, ◌∙◌, ap₂, arith, drop-drop}
-use Rattle.sha256_block.specs.Block.{hash}
-use Rattle.sha256_block.specs.Schedule.{compress_held}
-use Rattle.sha256_block.proofs.Schedule.{compress_held_lem}
+-- A string hashed block by block: the hash value after a list of blocks.
+use Rattle.std.proofs.Common.{◌≡◌, ℕ, zero, suc, List, [], ◌∷◌, take, drop, refl}
+use Rattle.std.specs.Simd.{first_chunks}
+use Rattle.sha256_block.specs.Block.{compress_of, hash}
 
-pub none_yet : (n : ℕ) (h s : List ℕ) → hash (n - 0) h (drop (64 * 0) s) ≡ hash n h s
-none_yet n h s = ap (λ (j : ℕ). hash j h s) (omega arith)
+abbrev pub over : List ℕ → List (List ℕ) → List ℕ
+over h [] = h
+over h (block ∷ blocks) = over (compress_of h block) blocks
 
-pub one_block : (n k : ℕ) (h s : List ℕ) → k < n
-    → hash (n - (k + 1)) (compress_held h (take 64 (drop (64 * k) s))) (drop (64 * (k + 1)) s) ≡ hash (n - k) h (drop (64 * k) s)
+pub over_chunks : (n : ℕ) (h s : List ℕ) → over h (first_chunks 64 n s) ≡ hash n h s
 unfolding hash
-one_block n k h s lt =
-    let a : suc (n - (k + 1)) ≡ n - k = omega arith in
-    let b : 64 * (k + 1) ≡ 64 * k + 64 = omega arith in
-    ap₂ (hash (n - (k + 1))) (compress_held_lem h (take 64 (drop (64 * k) s))) (ap (λ (i : ℕ). drop i s) b ∙ sym (drop-drop 64 (64 * k) s))
-    ∙ ap (λ (j : ℕ). hash j h (drop (64 * k) s)) a
-
-pub all_done : (n k : ℕ) (h s : List ℕ) → n ≤ k → hash (n - k) h s ≡ h
-unfolding hash
-all_done n k h s le =
-    let a : n - k ≡ zero = omega arith in
-    rw a
+over_chunks zero h s = refl
+over_chunks (suc n) h s = over_chunks n (compress_of h (take 64 s)) (drop 64 s)

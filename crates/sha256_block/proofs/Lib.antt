@@ -1,4 +1,5 @@
 pub mod Bitwise
+pub mod Sums
 pub mod BlockWords
 pub mod Schedule
 pub mod Blocks

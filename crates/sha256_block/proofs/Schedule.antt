@@ -3,11 +3,10 @@ use Rattle.std.proofs.Common.{◌≡◌, ℕ, zero, suc, ◌+◌, ◌-◌, ◌*�
 use lib.ListN.{get_or-append}
 use lib.Seq.{get_or-append_seam}
 use Rattle.sha256_block.specs.declared.block.Working.{Working}
-use Rattle.sha256_block.specs.declared.block.Sixteen.{Sixteen}
 use Rattle.sha256_block.specs.Words.{◌⊞◌, σ₀, σ₁}
 use Rattle.sha256_block.specs.Constants.{K}
 use Rattle.sha256_block.specs.Block.{◌!◌, words_of, next, schedule, variables, round_of, rounds, sum_of, compress_of}
-use Rattle.sha256_block.specs.Schedule.{W, following, held, rounds_held, compress_held, OwnWords, EveryRoundAddsItsOwn, list_of, Before, GroupHoldsItsOwn}
+use Rattle.sha256_block.specs.Schedule.{W, following, held, rounds_held, compress_held, OwnWords, EveryRoundAddsItsOwn, Before, GroupHoldsItsOwn}
 use Rattle.sha256_block.proofs.BlockWords.{length_words}
 
 -- ---- the schedule
@@ -129,14 +128,6 @@ held_add t (suc n) m e =
     ∙ ap (λ (j : ℕ). held j m) (sym (add-suc t n))
 
 -- ---- the rounds
-pub no_round : (s : Working) (k w : List ℕ) → s ≡ rounds 0 s k w
-unfolding rounds
-no_round s k w = refl
-
-pub one_more : (n : ℕ) (s x : Working) (k w : List ℕ) {r : Working} → x ≡ rounds n s k w → r ≡ round_of x (k ! n) (w ! n) → r ≡ rounds (suc n) s k w
-unfolding rounds
-one_more n s x k w ex e = e ∙ ap (λ (y : Working). round_of y (k ! n) (w ! n)) ex
-
 -- with sixteen words the rounds are those of FIPS 180-4
 module _ (m : List ℕ) (l : length m ≡ 16) where
   same_rounds : (n : ℕ) (s : Working) → n ≤ 64 → rounds_held n s m ≡ rounds n s K (schedule 48 m)
@@ -162,13 +153,13 @@ compress_held_lem h block =
     ap (λ (x : Working). sum_of x h) (same_rounds (words_of 16 block) (length_words 16 block) 64 (variables h) (omega arith))
 
 -- ---- the groups of rounds
-pub none_before : (s x : Working) (m : List ℕ) (w : Sixteen) → x ≡ s → list_of w ≡ m → Before 0 s m x w
+pub none_before : (s x : Working) (m w : List ℕ) → x ≡ s → w ≡ m → Before 0 s m x w
 unfolding held rounds_held
 none_before s x m w p q = record { working = p; words = λ le. q }
 
 -- the words in w are those of the group's rounds
-its_own : (t : ℕ) (s : Working) (m : List ℕ) (x : Working) (w : Sixteen) → length m ≡ 16 → t % 16 ≡ 0 → t ≤ 48 → Before t s m x w
-    → (j : ℕ) → j < 16 → list_of w ! j ≡ W m (t + j)
+its_own : (t : ℕ) (s : Working) (m : List ℕ) (x : Working) (w : List ℕ) → length m ≡ 16 → t % 16 ≡ 0 → t ≤ 48 → Before t s m x w
+    → (j : ℕ) → j < 16 → w ! j ≡ W m (t + j)
 its_own t s m x w l d h b j lt =
     let p : j ≡ (t + j) % 16 = omega arith in
     ap (λ (v : List ℕ). v ! j) (b.words h) ∙ ap (λ (i : ℕ). held t m ! i) p ∙ (own_words m l).holds t j lt (omega arith)
@@ -176,12 +167,12 @@ its_own t s m x w l d h b j lt =
 pub group_holds_its_own : GroupHoldsItsOwn
 group_holds_its_own t s block x w = its_own t s (words_of 16 block) x w (length_words 16 block)
 
-pub sixteen_more : (t : ℕ) (s : Working) (m : List ℕ) (x x' : Working) (w w' : Sixteen) (k : List ℕ) → length m ≡ 16 → t % 16 ≡ 0 → t < 64 → Before t s m x w
-    → x' ≡ rounds 16 x k (list_of w) → k ≡ take 16 (drop t K) → (t < 48 → list_of w' ≡ held 16 (list_of w))
+pub sixteen_more : (t : ℕ) (s : Working) (m : List ℕ) (x x' : Working) (w w' k : List ℕ) → length m ≡ 16 → t % 16 ≡ 0 → t < 64 → Before t s m x w
+    → x' ≡ rounds 16 x k w → k ≡ take 16 (drop t K) → (t < 48 → w' ≡ held 16 w)
     → Before (t + 16) s m x' w'
 sixteen_more t s m x x' w w' k l d h b ex ek ew =
     let le : t ≤ 48 = omega arith in
     record {
-      working = ex ∙ rw (b.working, ek) (group m l t 16 s (list_of w) le (omega arith) (its_own t s m x w l d le b));
+      working = ex ∙ rw (b.working, ek) (group m l t 16 s w le (omega arith) (its_own t s m x w l d le b));
       words = λ more. ew (omega arith) ∙ ap (held 16) (b.words le) ∙ held_add t 16 m d;
     }

@@ -13,13 +13,10 @@ ghost use Rattle.sha256_block.specs.Block.{hash_blocks};
 pub fn hash_blocks(h: [u32; 8], s: &[u8]) -> [u32; 8]
     ensures { result ≡ hash_blocks h s.now }
 {
-    let n = s.len() / 64;
     let mut words = h;
-    let mut k = 0;
-    while k < n {
-        let next = block::compress(words, s, 64 * k);
+    for block in s.as_chunks::<64>().0 {
+        let next = block::compress(words, block);
         words = next;
-        k += 1;
     }
     words
 }

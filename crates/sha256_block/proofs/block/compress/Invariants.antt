@@ -1,10 +1,7 @@
-use Rattle.std.proofs.Common.{◌≡◌, ◌-◌, ◌%◌, ◌≤◌, take, drop}
+use Rattle.std.proofs.Common.{◌*◌}
 use Rattle.sha256_block.specs.Block.{words_of, variables}
 use Rattle.sha256_block.specs.Schedule.{Before}
 use Rattle.sha256_block.proofs.block.compress.Given as goal
 
-abbrev pub invariant-loop-t : goal.invariant-loop-t
-invariant-loop-t l = (l.t ≤ 64) × (l.t % 16 ≡ 0) × Before l.t (variables l.h) (words_of 16 (take 64 (drop l.i l.s))) l.x l.w
-
-abbrev pub decreases-loop-t : goal.decreases-loop-t
-decreases-loop-t l = 64 - l.t
+abbrev pub invariant-loop-group : goal.invariant-loop-group
+invariant-loop-group l = Before (16 * l.group) (variables l.h) (words_of 16 l.block) l.x l.w

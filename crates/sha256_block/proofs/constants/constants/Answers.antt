@@ -1,24 +1,15 @@
--- Each row is the sixteen constants from its own number on.
-use Rattle.std.proofs.Common.{◌≡◌, ℕ, List, take, drop, sym, refl, ap, ◌∙◌, arith}
+-- Each row is the sixteen constants from its own first on.
+use Rattle.std.proofs.Common.{◌≡◌, ℕ, zero, suc, ◌*◌, ◌<◌, [], ◌∷◌, get_or, take, drop, refl, arith}
 use Rattle.sha256_block.specs.Constants.{K}
 use Rattle.sha256_block.proofs.constants.constants.Goals as goal
 
--- the row from t on, by a number that is t
-row : (t n : ℕ) {l : List ℕ} → l ≡ take 16 (drop n K) → t ≡ n → l ≡ take 16 (drop t K)
-row t n e p = e ∙ ap (λ (j : ℕ). take 16 (drop j K)) (sym p)
-
-pub returns-then-group-eq0 : goal.returns-then-group-eq0
-unfolding K
-returns-then-group-eq0 c = row c.args.t 0 refl (omega arith)
-
-pub returns-then-group-eq1 : goal.returns-then-group-eq1
-unfolding K
-returns-then-group-eq1 c = row c.args.t 16 refl (omega arith)
-
-pub returns-then-group-eq2 : goal.returns-then-group-eq2
-unfolding K
-returns-then-group-eq2 c = row c.args.t 32 refl (omega arith)
+row : (g : ℕ) → g < 4 → get_or (take 16 K ∷ take 16 (drop 16 K) ∷ take 16 (drop 32 K) ∷ take 16 (drop 48 K) ∷ []) g [] ≡ take 16 (drop (16 * g) K)
+row zero h = refl
+row (suc zero) h = refl
+row (suc (suc zero)) h = refl
+row (suc (suc (suc zero))) h = refl
+row (suc (suc (suc (suc g)))) h = absurd (omega arith)
 
 pub returns : goal.returns
 unfolding K
-returns c = row c.args.t 48 refl (omega arith)
+returns c = row c.args.group c.requires

@@ -1,19 +1,20 @@
 -- An answer that is equal to the one that is due, and is given number by number, is the one that is due.
-use mathlib.Core.Path.{◌≡◌, ap}
+use mathlib.Core.Path.{◌≡◌, ap, ◌∙◌}
 use mathlib.Core.List.{List, [], ◌∷◌}
 use Prim.Native.Nat.{ℕ}
 use Rattle.answer.specs.declared.Answer.{Answer}
 use Rattle.policy_writer.specs.declared.Written.{Written}
 use Rattle.bleiwurzel.specs.Scalars.{counts_of, Given}
 
-pub as_given : (r due : Answer) (pages places : List ℕ) → r ≡ due → pages ≡ places → Given due places r.number pages (counts_of r) (r.place ∷ []) r.digest
-as_given r due pages places e f =
+pub as_given : (r due : Answer) (pages places : List ℕ) {number : ℕ} {counts place digest : List ℕ} → r ≡ due → pages ≡ places
+    → number ≡ r.number → counts ≡ counts_of r → place ≡ r.place ∷ [] → digest ≡ r.digest → Given due places number pages counts place digest
+as_given r due pages places e f n c p d =
     record {
-      the_number = ap (λ a. a.number) e;
+      the_number = n ∙ ap (λ a. a.number) e;
       the_pages = f;
-      the_counts = ap counts_of e;
-      the_place = ap (λ a. a.place ∷ []) e;
-      the_digest = ap (λ a. a.digest) e;
+      the_counts = c ∙ ap counts_of e;
+      the_place = p ∙ ap (λ a. a.place ∷ []) e;
+      the_digest = d ∙ ap (λ a. a.digest) e;
     }
 
 -- the same of what was written

@@ -5,14 +5,28 @@
 mod policy_file;
 mod policy_write;
 
-ghost use Rattle.std.specs.Prelude.{◌≡◌, length};
+ghost use Rattle.std.specs.Prelude.{◌≡◌, [], ◌∷◌, length};
 ghost use Rattle.sha256.specs.Message.{sha256};
 ghost use Rattle.rsa.specs.Rsa.{verifies};
 ghost use Rattle.launch.specs.Rules.{input_of};
 ghost use Rattle.capture.specs.Capture.{capture_answer, capture_places};
-ghost use Rattle.bleiwurzel.specs.Scalars.{platform_of, Given, GivenFor, MeasuredFor};
+ghost use Rattle.bleiwurzel.specs.Scalars.{platform_of, counts_of, Given, GivenFor, MeasuredFor};
 
+use answer::Answer;
 use launch::{Platform, RESERVED_NUMBERS, ReservedRanges};
+
+// An answer to C: the number as the result, the rest in arrays.
+fn give(a: Answer, counts: &mut [u32; 2], place: &mut [u32; 1], digest: &mut [u8; 32]) -> u32
+    ensures number { result ≡ a.number }
+    ensures counts { counts.new ≡ counts_of a }
+    ensures place { place.new ≡ a.place ∷ [] }
+    ensures digest { digest.new ≡ a.digest }
+{
+    *counts = [a.pages, a.list];
+    *place = [a.place];
+    *digest = a.digest;
+    a.number
+}
 
 // Whether the next launch will succeed: the number. On permission the first places of `pages` hold the addresses of the pages. `counts` gets the
 // number of pages and the list, `place` on 27 the offset of the first field at fault in the policy file, else 0, `digest` the digest of the pages.
@@ -102,7 +116,6 @@ pub extern "C" fn bleiwurzel_check_measured(
         (length pages.old))
         pages.old result pages.new counts.new place.new digest.new measurement.new }
 {
-    let numbers = *reserved;
     let platform = Platform {
         window_base: window_base,
         heap_base: heap_base,
@@ -115,7 +128,7 @@ pub extern "C" fn bleiwurzel_check_measured(
         revision: revision,
         reserved: ReservedRanges {
             count: reserved_count,
-            numbers: numbers,
+            numbers: *reserved,
         },
     };
     let a = launch::check_measured(
@@ -128,13 +141,7 @@ pub extern "C" fn bleiwurzel_check_measured(
         pages,
         measurement,
     );
-    let two = [a.pages, a.list];
-    let one = [a.place];
-    let sum = a.digest;
-    *counts = two;
-    *place = one;
-    *digest = sum;
-    a.number
+    give(a, counts, place, digest)
 }
 
 // The check for a capture, with 30 for what is no capture.
@@ -152,13 +159,7 @@ pub extern "C" fn bleiwurzel_check_capture(
         result pages.new counts.new place.new digest.new }
 {
     let r = capture::check(capture, pages);
-    let two = [r.pages, r.list];
-    let one = [r.place];
-    let sum = r.digest;
-    *counts = two;
-    *place = one;
-    *digest = sum;
-    r.number
+    give(r, counts, place, digest)
 }
 
 // SHA-256 of a message.

@@ -12,9 +12,7 @@ ghost use Rattle.capture.specs.Inner.{Rising};
 use answer::Answer;
 use field::number_or_zero;
 use launch::{MOST_RESERVED, Platform, RESERVED_NUMBERS, ReservedRanges};
-
-// The number of a string that is no capture.
-const NOT_CAPTURE: u32 = 30;
+use rules::Refusal;
 
 // The versions: the second has the reserved ranges.
 const FIRST: u64 = 1;
@@ -74,15 +72,10 @@ fn reserved(s: &[u8]) -> ReservedRanges
 {
     let count = range_count(s);
     let mut numbers = [0u64; RESERVED_NUMBERS];
-    let mut k: usize = 0;
-    while k < 2 * count as usize {
+    for k in 0..2 * count as usize {
         numbers[k] = number_or_zero(s, RANGES + 8 * k, 8);
-        k += 1;
     }
-    ReservedRanges {
-        count: count,
-        numbers: numbers,
-    }
+    ReservedRanges { count, numbers }
 }
 
 fn platform(s: &[u8]) -> Platform
@@ -171,7 +164,7 @@ pub fn check(s: &[u8], pages: &mut [u64]) -> Answer
     ensures places { pages.new ≡ capture_places s.now pages.old }
 {
     if !holds(s) {
-        return answer::refused(NOT_CAPTURE, 0);
+        return Answer::from(Refusal::Capture);
     }
     let at = offsets_in(s);
     let window = at.window;

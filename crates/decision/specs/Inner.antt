@@ -1,18 +1,15 @@
 -- What the contracts of functions cite that are not public: an answer of the policy reader, and what it is the answer for.
-use Rattle.std.specs.Prelude.{ℕ, ◌<◌, ◌^◌, ◌≡◌, Bool, true, false, cond, ◌&&◌, leb, length, drop}
+use Rattle.std.specs.Prelude.{ℕ, ◌<◌, ◌^◌, ◌≡◌, Bool, true, false, cond, ◌&&◌, leb, length, drop, Some, None}
 use mathlib.Core.List.{List, [], ◌∷◌, flat_map}
 use Rattle.std.proofs.Math.Option.{Option, some, none}
-use Rattle.sha256.specs.Message.{sha256}
 use Rattle.rsa.specs.Rsa.{verifies}
-use Rattle.policy_answers.specs.declared.ListAnswer.{ListAnswer}
-use Rattle.policy_answers.specs.declared.ListAnswer.TheVariants as lists
-use Rattle.policy_answers.specs.declared.ElementAnswer.{ElementAnswer}
-use Rattle.policy_answers.specs.declared.ElementAnswer.TheVariants as elements
+use Rattle.policy_answers.specs.Types.{ListAnswer, Signed}
+use Rattle.policy_answers.specs.declared.ElementBody.{ElementBody}
+use Rattle.policy_answers.specs.declared.ElementBody.TheVariants as bodies
 use Rattle.policy_grammar.specs.Grammar.{All, Element, element_bytes, ValidElement, Signing, PolicyList, list_bytes, ValidList}
 use Rattle.policy_grammar.specs.Grammar as Grammar
 use Rattle.policy_answers.specs.Answers.{list_shown}
 use Rattle.policy_answers.specs.Seen.{ListPart}
-use Rattle.decision.specs.declared.StmDigest.{StmDigest}
 use Rattle.decision.specs.declared.Judgement.{Judgement}
 use Rattle.decision.specs.declared.Judgement.TheVariants.{No, Yes, IfStmNamed}
 use Rattle.rules.specs.Tests.{every, any}
@@ -28,10 +25,9 @@ measured_seen none = []
 measured_seen (some p) = measured_in p p.signing
 
 -- a list that is answered has, if it is signed, a counter that is at least a number; and a list that is seen has then a signature that verifies
-abbrev pub reached_seen : ℕ → ListAnswer → Bool
-reached_seen least (lists.Unsigned start size version es n) = true
-reached_seen least (lists.Signed start size version es n c k key signature) = leb least c
-reached_seen least lists.Absent = false
+abbrev pub reached_seen : ℕ → Signed → Bool
+reached_seen least None = true
+reached_seen least (Some g) = leb least g.counter
 
 abbrev pub verified_in : ListPart → Signing → Bool
 verified_in p Grammar.unsigned = true
@@ -42,19 +38,17 @@ verified_seen none = false
 verified_seen (some p) = verified_in p p.signing
 
 -- an element is of a type that is judged
-abbrev pub judged_answer : ElementAnswer → Bool
-judged_answer (elements.Launch start size control m v a n) = true
-judged_answer (elements.Stm start size control a n) = true
-judged_answer (elements.Custom start size control) = true
-judged_answer (elements.Unjudged start size type control) = false
-judged_answer elements.Refused = false
+abbrev pub judged_body : ElementBody → Bool
+judged_body (bodies.Launch m v a n) = true
+judged_body (bodies.Stm a n) = true
+judged_body bodies.Custom = true
+judged_body (bodies.Unjudged type) = false
 
-abbrev pub is_stm_answer : ElementAnswer → Bool
-is_stm_answer (elements.Launch start size control m v a n) = false
-is_stm_answer (elements.Stm start size control a n) = true
-is_stm_answer (elements.Custom start size control) = false
-is_stm_answer (elements.Unjudged start size type control) = false
-is_stm_answer elements.Refused = false
+abbrev pub is_stm_body : ElementBody → Bool
+is_stm_body (bodies.Launch m v a n) = false
+is_stm_body (bodies.Stm a n) = true
+is_stm_body bodies.Custom = false
+is_stm_body (bodies.Unjudged type) = false
 
 -- a test of an element that is seen
 abbrev pub test_seen : (Element → Bool) → Option Element → Bool
@@ -68,17 +62,12 @@ judgement_by found stm = cond found (cond stm IfStmNamed Yes) No
 abbrev pub judgement_of : Criteria → List Element → Judgement
 judgement_of k es = judgement_by (every judged es && any (names k) es) (any is_stm es)
 
--- the digest of an STM image, where it is known
-abbrev pub Known : List ℕ → StmDigest → Type 0
-Known image d = d.known ≡ true → d.digest ≡ sha256 image
-
 -- a count of digests is a number of 16 bits
-abbrev pub Counted : ElementAnswer → Type 0
-Counted (elements.Launch start size control m v a n) = n < 2 ^ 16
-Counted (elements.Stm start size control a n) = n < 2 ^ 16
-Counted (elements.Custom start size control) = Unit
-Counted (elements.Unjudged start size type control) = Unit
-Counted elements.Refused = Unit
+abbrev pub Counted : ElementBody → Type 0
+Counted (bodies.Launch m v a n) = n < 2 ^ 16
+Counted (bodies.Stm a n) = n < 2 ^ 16
+Counted bodies.Custom = Unit
+Counted (bodies.Unjudged type) = Unit
 
 -- elements fill a string from an offset on
 pub record ElementsStand (t : List ℕ) (at : ℕ) (es : List Element) : Type 0 where

@@ -1,5 +1,5 @@
 // The elements of a list: whether they are of types that are judged, and which digests they name.
-ghost use Rattle.std.specs.Prelude.{◌≡◌, List, ◌<◌, ◌^◌, ℕ, drop};
+ghost use Rattle.std.specs.Prelude.{◌≡◌, List, ◌<◌, ◌^◌, drop, Some};
 ghost use Rattle.field.specs.Field.{same};
 ghost use Rattle.policy_grammar.specs.Grammar.{Element};
 ghost use Rattle.policy_answers.specs.Seen.{pieces, seen_digests, seen_element};
@@ -7,10 +7,10 @@ ghost use Rattle.decision.specs.Lists as spec;
 ghost use Rattle.rules.specs.Tests.{any};
 ghost use Rattle.decision.specs.Lists.{digests_name, names_stm};
 ghost use Rattle.decision.specs.Answers.{criteria_of};
-ghost use Rattle.decision.specs.Inner.{judged_answer, is_stm_answer, test_seen, judgement_by, judgement_of, Counted, ElementsStand};
+ghost use Rattle.decision.specs.Inner.{judged_body, is_stm_body, test_seen, judgement_by, judgement_of, Counted, ElementsStand};
 
 use crate::{Judgement, LaunchCriteria};
-use policy_answers::{ElementAnswer, LAUNCH_DIGESTS, STM_DIGESTS};
+use policy_answers::{ElementAt, ElementBody, LAUNCH_DIGESTS, STM_DIGESTS};
 use policy_record::SHA256_ALG;
 
 const DIGEST_SIZE: usize = 32;
@@ -20,14 +20,10 @@ fn named(b: &[u8], start: usize, count: usize, digest: &[u8; 32]) -> bool
     requires { (start < 2 ^ 16) × (count < 2 ^ 16) }
     ensures { result ≡ any (same digest.now) (pieces count 32 (drop start b.now)) }
 {
-    let mut at = start;
-    let mut left = count;
-    while 0 < left {
-        if field::marked(b, at, digest) {
+    for k in 0..count {
+        if field::marked(b, start + DIGEST_SIZE * k, digest) {
             return true;
         }
-        at += DIGEST_SIZE;
-        left -= 1;
     }
     false
 }
@@ -44,76 +40,50 @@ fn digests_name(b: &[u8], start: usize, hash_alg: usize, count: usize, digest: &
 }
 
 // Whether an element of t names the digest of the pages. Its body is passed on as the part of t that it is.
-fn names(t: &[u8], e: ElementAnswer, k: LaunchCriteria) -> bool
-    requires { Counted e }
-    ensures { (stm policy_record : List ℕ) → result ≡ test_seen (spec.names (criteria_of k stm policy_record)) (seen_element t.now e) }
+fn names(t: &[u8], e: ElementAt, k: &LaunchCriteria) -> bool
+    requires { Counted e.body }
+    ensures { result ≡ test_seen (spec.names (criteria_of k.now)) (seen_element t.now (Some e)) }
 {
-    match e {
-        ElementAnswer::Launch {
-            sinit_min_version,
-            hash_alg,
-            count,
-            ..
-        } => {
-            if k.acm_version < sinit_min_version as u64 {
-                return false;
-            }
-            let digest = k.digest;
-            let b = policy_answers::body(t, e);
-            digests_name(b, LAUNCH_DIGESTS, hash_alg, count, &digest)
-        }
-        ElementAnswer::Stm { .. } => false,
-        ElementAnswer::Custom { .. } => false,
-        ElementAnswer::Unjudged { .. } => false,
-        ElementAnswer::Refused => false,
+    let ElementBody::Launch {
+        sinit_min_version,
+        hash_alg,
+        count,
+        ..
+    } = e.body
+    else {
+        return false;
+    };
+    if k.acm_version < sinit_min_version as u64 {
+        return false;
     }
+    let b = policy_answers::body(t, Some(e));
+    digests_name(b, LAUNCH_DIGESTS, hash_alg, count, &k.digest)
 }
 
 // Whether an element of t is an STM element that names a digest.
-fn names_stm(t: &[u8], e: ElementAnswer, digest: &[u8; 32]) -> bool
-    requires { Counted e }
-    ensures { result ≡ test_seen (names_stm digest.now) (seen_element t.now e) }
+fn names_stm(t: &[u8], e: ElementAt, digest: &[u8; 32]) -> bool
+    requires { Counted e.body }
+    ensures { result ≡ test_seen (names_stm digest.now) (seen_element t.now (Some e)) }
 {
-    match e {
-        ElementAnswer::Stm {
-            hash_alg,
-            count,
-            ..
-        } => {
-            let b = policy_answers::body(t, e);
-            digests_name(b, STM_DIGESTS, hash_alg, count, digest)
-        }
-        ElementAnswer::Launch { .. } => false,
-        ElementAnswer::Custom { .. } => false,
-        ElementAnswer::Unjudged { .. } => false,
-        ElementAnswer::Refused => false,
-    }
+    let ElementBody::Stm { hash_alg, count } = e.body else {
+        return false;
+    };
+    let b = policy_answers::body(t, Some(e));
+    digests_name(b, STM_DIGESTS, hash_alg, count, digest)
 }
 
 // Whether an element is of a type that is judged.
-fn judged(e: ElementAnswer) -> bool
-    ensures { result ≡ judged_answer e }
+fn judged(e: ElementAt) -> bool
+    ensures { result ≡ judged_body e.body }
 {
-    match e {
-        ElementAnswer::Launch { .. } => true,
-        ElementAnswer::Stm { .. } => true,
-        ElementAnswer::Custom { .. } => true,
-        ElementAnswer::Unjudged { .. } => false,
-        ElementAnswer::Refused => false,
-    }
+    !matches!(e.body, ElementBody::Unjudged { .. })
 }
 
 // Whether an element is an STM element.
-fn is_stm(e: ElementAnswer) -> bool
-    ensures { result ≡ is_stm_answer e }
+fn is_stm(e: ElementAt) -> bool
+    ensures { result ≡ is_stm_body e.body }
 {
-    match e {
-        ElementAnswer::Stm { .. } => true,
-        ElementAnswer::Launch { .. } => false,
-        ElementAnswer::Custom { .. } => false,
-        ElementAnswer::Unjudged { .. } => false,
-        ElementAnswer::Refused => false,
-    }
+    matches!(e.body, ElementBody::Stm { .. })
 }
 
 // What elements say that are all judged, by whether one names the digest of the pages and whether one is an STM element.
@@ -131,25 +101,23 @@ fn judgement(named: bool, holds_stm: bool) -> Judgement
 
 // What the elements of t from `start` on say: all are of types that are judged, one of them names the digest of the pages, and whether one is an STM
 // element.
-pub(crate) fn elements_judged(t: &[u8], start: usize, k: LaunchCriteria) -> Judgement
+pub(crate) fn elements_judged(t: &[u8], start: usize, k: &LaunchCriteria) -> Judgement
     requires { (es : List Element) × ElementsStand t.now start es }
-    ensures { (es : List Element) (stm policy_record : List ℕ) → ElementsStand t.now start es → result ≡ judgement_of (criteria_of k stm policy_record) es }
+    ensures { (es : List Element) → ElementsStand t.now start es → result ≡ judgement_of (criteria_of k.now) es }
 {
     let mut at = start;
     let mut named = false;
     let mut holds_stm = false;
     while at < t.len() {
-        let e = policy_reader::element_at(t, at);
+        let Some(e) = policy_reader::element_at(t, at) else {
+            return Judgement::No;
+        };
         if !judged(e) {
             return Judgement::No;
         }
-        if names(t, e, k) {
-            named = true;
-        }
-        if is_stm(e) {
-            holds_stm = true;
-        }
-        at += policy_answers::element_size(e);
+        named |= names(t, e, k);
+        holds_stm |= is_stm(e);
+        at += e.size;
     }
     judgement(named, holds_stm)
 }
@@ -161,11 +129,13 @@ pub(crate) fn stm_named(t: &[u8], start: usize, digest: &[u8; 32]) -> bool
 {
     let mut at = start;
     while at < t.len() {
-        let e = policy_reader::element_at(t, at);
+        let Some(e) = policy_reader::element_at(t, at) else {
+            return false;
+        };
         if names_stm(t, e, digest) {
             return true;
         }
-        at += policy_answers::element_size(e);
+        at += e.size;
     }
     false
 }

@@ -2,24 +2,26 @@
 ghost use Rattle.std.specs.Prelude.{◌≡◌, true};
 ghost use Rattle.policy_answers.specs.Seen.{seen_list};
 ghost use Rattle.decision.specs.Lists.{of_grammar, lists_of, hash_of, hash_matches};
-ghost use Rattle.decision.specs.Answers.{file_fault_of};
+ghost use Rattle.decision.specs.Answers.{file_fault_of, fault_shown};
 ghost use Rattle.decision.specs.Inner.{measured_seen};
 
-use crate::FileFault;
-use policy_answers::{FileAnswer, ListAnswer};
+use policy_answers::{FileFault, ListAt};
 use policy_reader::FIRST_LIST;
+use rules::{Refusal, require};
 
 // The offset of PolicyHash in a record.
 pub const POLICY_HASH: usize = 38;
 
 // What is measured for a list: its bytes, or its key if it is signed.
-fn measured(file: &[u8], l: ListAnswer) -> &[u8]
+fn measured(file: &[u8], l: Option<ListAt>) -> &[u8]
     ensures { result.now ≡ measured_seen (seen_list file.now l) }
 {
-    match l {
-        ListAnswer::Unsigned { start, size, .. } => policy_answers::part_at(file, start, size),
-        ListAnswer::Signed { key_size, key, .. } => policy_answers::part_at(file, key, key_size),
-        ListAnswer::Absent => &file[..0],
+    let Some(l) = l else {
+        return &file[..0];
+    };
+    match l.signing {
+        Some(signing) => policy_answers::part_at(file, signing.key, signing.key_size),
+        None => policy_answers::part_at(file, l.start, l.size),
     }
 }
 
@@ -44,9 +46,8 @@ pub fn policy_hash(file: &[u8]) -> [u8; 32]
     ensures { result ≡ hash_of (lists_of file.now) }
 {
     match policy_reader::read(file) {
-        FileAnswer::Accepted { .. } => hash(file),
-        FileAnswer::WrongSize => sha256::digest(&file[..0]),
-        FileAnswer::NotOfGrammar { .. } => sha256::digest(&file[..0]),
+        Ok(_) => hash(file),
+        Err(_) => sha256::digest(&file[..0]),
     }
 }
 
@@ -59,19 +60,15 @@ fn hash_matches(file: &[u8], record: &[u8]) -> bool
     field::marked(record, POLICY_HASH, &h)
 }
 
-fn fault(number: u32, place: u32) -> FileFault
-    ensures { result ≡ record { number = number; place = place } }
-{
-    FileFault { number, place }
-}
-
-// The first of rules 27 and 28 that fails for a file and the record.
-pub fn file_fault(file: &[u8], record: &[u8]) -> FileFault
-    ensures { result ≡ file_fault_of file.now «record».now }
+// Rules 27 and 28, for a file and the record. A file of a size that is not read, which 26 keeps away, is not of the grammar, at 0.
+pub fn judge_file(file: &[u8], record: &[u8]) -> Result<(), Refusal>
+    ensures { fault_shown result ≡ file_fault_of file.now «record».now }
 {
     match policy_reader::read(file) {
-        FileAnswer::Accepted { .. } => fault(rules::unless(hash_matches(file, record), 28, 0), 0),
-        FileAnswer::WrongSize => fault(27, 0),
-        FileAnswer::NotOfGrammar { place } => fault(27, place as u32),
+        Ok(_) => require(hash_matches(file, record), Refusal::PolicyHash),
+        Err(FileFault::WrongSize) => Err(Refusal::PolicyGrammar { place: 0 }),
+        Err(FileFault::NotOfGrammar { place }) => Err(Refusal::PolicyGrammar {
+            place: place as u32,
+        }),
     }
 }

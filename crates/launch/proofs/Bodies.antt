@@ -6,16 +6,13 @@ use mathlib.Core.List.{List}
 use lib.ListN.{length}
 use Rattle.rules.specs.Rules.{all}
 use Rattle.heap.specs.declared.OsSinitData.{OsSinitData}
-use Rattle.heap.specs.declared.HeapAnswer.{HeapAnswer}
-use Rattle.heap.specs.declared.HeapAnswer.TheVariants.{OsSinit, Refused}
 use Rattle.heap.specs.Heap.{heap_of}
 use Rattle.heap.proofs.Bodies as heap
-use Rattle.sinit.specs.declared.ModuleAnswer.{ModuleAnswer}
-use Rattle.sinit.specs.declared.ModuleAnswer.TheVariants as modules
+use Rattle.std.specs.Prelude.{Result, Ok, Err}
+use Rattle.sinit.specs.declared.ModuleData.{ModuleData}
 use Rattle.sinit.specs.Rules.{module_of}
+use Rattle.launch.specs.declared.Found.{Found}
 use Rattle.launch.specs.declared.Platform.{Platform}
-use Rattle.launch.specs.declared.FindAnswer.{FindAnswer}
-use Rattle.launch.specs.declared.FindAnswer.TheVariants as finds
 use Rattle.launch.specs.Rules.{Input, input_of, memory_from, chipset_of, platform_tests}
 use Rattle.launch.specs.Answer.{answer_of, places_of}
 use Rattle.launch.specs.Inner.{find_stage, outcome_of}
@@ -35,17 +32,17 @@ module _ (w s r stm : List ℕ) (p : Platform) (n : ℕ) where
     abbrev Same : Type 0
     Same = find_stage (with h) ≡ find_stage (with k)
 
-    by_module : all (platform_tests w h stm p) ≡ true → (o : OsSinitData) → heap_of h ≡ OsSinit o
-        → (a : ModuleAnswer) → module_of s p.sinit_base p.acram_capacity (chipset_of p) o.version ≡ a → Same
-    by_module t o e (modules.Refused m) q =
+    by_module : all (platform_tests w h stm p) ≡ true → (o : OsSinitData) → heap_of h ≡ Ok o
+        → (a : Result ModuleData ℕ) → module_of s p.sinit_base p.acram_capacity (chipset_of p) o.version ≡ a → Same
+    by_module t o e (Err m) q =
         sym (module_refuses w h s r stm p n t o e m q) ∙ module_refuses w k s r stm p n (sym same_tests ∙ t) o (sym same ∙ e) m q
-    by_module t o e (modules.Module m) q =
+    by_module t o e (Ok m) q =
         let mem = memory_from (length h) (length s) p o in
         sym (module_passes w h s r stm p n t o e m q mem refl) ∙ module_passes w k s r stm p n (sym same_tests ∙ t) o (sym same ∙ e) m q mem (rw lengths)
 
-    by_heap : all (platform_tests w h stm p) ≡ true → (a : HeapAnswer) → heap_of h ≡ a → Same
-    by_heap t (Refused m) e = sym (heap_refuses w h s r stm p n t m e) ∙ heap_refuses w k s r stm p n (sym same_tests ∙ t) m (sym same ∙ e)
-    by_heap t (OsSinit o) e = by_module t o e _ refl
+    by_heap : all (platform_tests w h stm p) ≡ true → (a : Result OsSinitData ℕ) → heap_of h ≡ a → Same
+    by_heap t (Err m) e = sym (heap_refuses w h s r stm p n t m e) ∙ heap_refuses w k s r stm p n (sym same_tests ∙ t) m (sym same ∙ e)
+    by_heap t (Ok o) e = by_module t o e _ refl
 
     same_find : Same
     same_find = by (all (platform_tests w h stm p)) refl
@@ -57,9 +54,9 @@ module _ (w s r stm : List ℕ) (p : Platform) (n : ℕ) where
     same_outcome : outcome_of (with h) ≡ outcome_of (with k)
     same_outcome = by (find_stage (with h)) refl
       where
-        by : (a : FindAnswer) → find_stage (with h) ≡ a → outcome_of (with h) ≡ outcome_of (with k)
-        by (finds.Refused m) e = sym (find_refuses (with h) m e) ∙ find_refuses (with k) m (sym same_find ∙ e)
-        by (finds.Complete f) e = sym (find_passes (with h) f e) ∙ find_passes (with k) f (sym same_find ∙ e)
+        by : (a : Result Found ℕ) → find_stage (with h) ≡ a → outcome_of (with h) ≡ outcome_of (with k)
+        by (Err m) e = sym (find_refuses (with h) m e) ∙ find_refuses (with k) m (sym same_find ∙ e)
+        by (Ok f) e = sym (find_passes (with h) f e) ∙ find_passes (with k) f (sym same_find ∙ e)
 
 -- the input with another heap
 abbrev with_heap : Input → List ℕ → Input

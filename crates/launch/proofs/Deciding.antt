@@ -12,20 +12,19 @@ use Rattle.rules.proofs.Rules.{NumbersIn, numbers_not_0, number_most}
 use Rattle.rules.proofs.Tests.{◌&◌, fails}
 use Rattle.rules.proofs.Answers.{permits, rule_refuses, rule_passes, group_refuses, group_passes}
 use Rattle.mle.specs.Image.{image_digest}
-use Rattle.policy_record.specs.declared.RecordAnswer.TheVariants as records
+use Rattle.policy_record.specs.declared.PolicyType.TheVariants as types
+use Rattle.std.specs.Prelude.{Ok, Err}
 use Rattle.policy_record.specs.Record.{policy_type, LIST, record_rules}
 use Rattle.decision.specs.Lists.{file_placed, some_permits, lowest_permitting}
 use Rattle.answer.specs.Answer.{no_list}
 use Rattle.policy_record.specs.Answers.{record_of}
-use Rattle.decision.specs.declared.FileFault.{FileFault}
-use Rattle.decision.specs.Answers.{criteria_by, file_rules, place_for, file_fault_of}
+use Rattle.decision.specs.Answers.{criteria_by, file_rules, place_for, FileFault, file_fault_of}
 use Rattle.policy_record.proofs.RecordAnswers.{list_exactly, any_exactly, refusal_exactly}
 use Rattle.decision.proofs.Permission.{reported_exactly}
 use Rattle.launch.specs.declared.Found.{Found}
-use Rattle.launch.specs.declared.Outcome.{Outcome}
 use Rattle.launch.specs.Rules.{policy_file, criteria, list_rules}
 use Rattle.launch.specs.Answer.{list_for}
-use Rattle.launch.specs.Inner.{refusal_showing, early_refusal, refusal, permission_with, permission, file_stage, list_stage, decide_stage}
+use Rattle.launch.specs.Inner.{Outcome, refusal_showing, early_refusal, refusal, permission_with, permission, file_stage, list_stage, decide_stage}
 use Rattle.launch.proofs.Order.{record_group, file_group}
 
 -- a refusal by rules whose numbers are below 29 shows nothing of the digest, and one by rules whose numbers are below 27 has no place
@@ -122,20 +121,20 @@ module _ (w r stm : List ℕ) (f : Found) where
   unfolding decide_stage
   record_passes e = group_passes (refusal w f) outcome rules later (numbers_not_0 23 25 rules (lit< tt) (record_group r f.flags f.acm_version).numbers) e
 
-  pub record_refuses : (n : ℕ) → record_of r f.flags f.acm_version ≡ records.Refused n → early_refusal n 0 ≡ decide_stage w r stm f
+  pub record_refuses : (n : ℕ) → record_of r f.flags f.acm_version ≡ Err n → early_refusal n 0 ≡ decide_stage w r stm f
   unfolding decide_stage
   record_refuses n e =
       let a = (refusal_exactly r _ _ n).0 e in
       unplaced_refuses w f outcome 23 25 rules later (record_group r f.flags f.acm_version).numbers n (lit< tt) a.0 a.1
 
-  pub record_any : record_of r f.flags f.acm_version ≡ records.Any → permission w f no_list ≡ decide_stage w r stm f
+  pub record_any : record_of r f.flags f.acm_version ≡ Ok types.Any → permission w f no_list ≡ decide_stage w r stm f
   record_any e =
       let a = (any_exactly r _ _).0 e in
       let none : permission w f no_list ≡ answer_by (refusal w f) outcome later =
       rw (ne_eqb (policy_type r) LIST a.1) (permits (refusal w f) (permission w f no_list) [] refl) in
       none ∙ record_passes a.0
 
-  pub record_list : record_of r f.flags f.acm_version ≡ records.List → list_stage w r stm f ≡ decide_stage w r stm f
+  pub record_list : record_of r f.flags f.acm_version ≡ Ok types.List → list_stage w r stm f ≡ decide_stage w r stm f
   unfolding list_stage
   record_list e =
       let a = (list_exactly r _ _).0 e in

@@ -9,11 +9,10 @@ use Rattle.rules.proofs.Answers.{made_of, group_passes}
 use Rattle.mle.specs.Image.{page_list}
 use Rattle.mle.proofs.Pages.{page_list_none}
 use Rattle.launch.specs.declared.Found.{Found}
-use Rattle.launch.specs.declared.FindAnswer.TheVariants.{Complete, Refused}
-use Rattle.launch.specs.declared.Outcome.{Outcome}
+use Rattle.std.specs.Prelude.{Ok, Err}
 use Rattle.launch.specs.Rules.{Input, found, find_rules, decide_rules, rules}
 use Rattle.launch.specs.Answer.{answer_of, places_of, measurement_of, list_for}
-use Rattle.launch.specs.Inner.{no_image, early_refusal, refusal, permission, find_stage, decide_stage, outcome_of}
+use Rattle.launch.specs.Inner.{Outcome, no_image, early_refusal, refusal, permission, find_stage, decide_stage, outcome_of}
 use Rattle.launch.proofs.Finding.{refused_by, complete_by}
 use Rattle.launch.proofs.Deciding.{unplaced_refuses}
 use Rattle.launch.proofs.Order.{find_group}
@@ -28,13 +27,13 @@ module _ (i : Input) where
   abbrev later : List Rule
   later = decide_rules i.window i.policy_record i.stm (found i)
 
-  pub find_refuses : (n : ℕ) → find_stage i ≡ Refused n → early_refusal n 0 ≡ outcome_of i
+  pub find_refuses : (n : ℕ) → find_stage i ≡ Err n → early_refusal n 0 ≡ outcome_of i
   unfolding find_stage outcome_of rules
   find_refuses n e =
       let a = refused_by (find_rules i) (found i) n e in
       unplaced_refuses i.window (found i) outcome 1 22 (find_rules i) later (find_group i).numbers n (lit< tt) a.0 a.1
 
-  pub find_passes : (f : Found) → find_stage i ≡ Complete f → decide_stage i.window i.policy_record i.stm f ≡ outcome_of i
+  pub find_passes : (f : Found) → find_stage i ≡ Ok f → decide_stage i.window i.policy_record i.stm f ≡ outcome_of i
   unfolding find_stage decide_stage outcome_of rules
   find_passes f e =
       let a = complete_by (find_rules i) (found i) f e in

@@ -1,7 +1,9 @@
 -- What the contracts of the stages say: the answer by the rules that are left to try, with what the stages before have found.
-use Rattle.std.specs.Prelude.{ℕ, List, [], ◌∷◌, replicate}
+use Rattle.std.specs.Prelude.{ℕ, List, [], ◌∷◌, replicate, Option, Some, None, Result, Ok, Err}
 use Rattle.rules.specs.Rules.{Rule, rule, answer_by}
-use Rattle.answer.specs.Answer.{refused}
+use Rattle.rules.specs.Refusal.{number, place}
+use Rattle.answer.specs.declared.Answer.{Answer}
+use Rattle.answer.specs.Answer.{refused, no_list}
 use Rattle.heap.specs.declared.OsSinitData.{OsSinitData}
 use Rattle.sinit.specs.declared.ModuleData.{ModuleData}
 use Rattle.pages.specs.Memory.{Memory}
@@ -9,26 +11,36 @@ use Rattle.mle.specs.declared.Image.{Image}
 use Rattle.mle.specs.Image.{image_digest}
 use Rattle.decision.specs.Lists.{some_permits, lowest_permitting}
 use Rattle.launch.specs.declared.Found.{Found}
-use Rattle.launch.specs.declared.FindAnswer.{FindAnswer}
-use Rattle.launch.specs.declared.FindAnswer.TheVariants.{Complete, Refused}
-use Rattle.launch.specs.declared.Outcome.{Outcome}
-use Rattle.launch.specs.Rules.{Input, image_rules, page_rules, image_found, found_of, found, find_rules, policy_file, criteria, list_rules, decide_rules, rules}
+use Rattle.launch.specs.declared.Lent.{Lent}
+use Rattle.launch.specs.declared.Permission.{Permission}
+use Rattle.launch.specs.declared.Refused.{Refused}
+use Rattle.launch.specs.Rules.{Input, input_of, image_rules, page_rules, image_found, found_of, found, find_rules, policy_file, criteria, list_rules, decide_rules, rules}
 use Rattle.launch.specs.Answer.{list_for, refused_at, shown}
+
+-- the input of a check, of what is lent and a page list of so many places
+abbrev pub input : Lent → ℕ → Input
+input l n = input_of l.window.now l.heap.now l.sinit.now l.policy_record.now l.stm.now l.platform n
 
 -- WHAT THE LAUNCH FINDS
 
 -- by rules 21 and 22, 12 to 22, 1 to 22
-unfoldable pub image_stage : List ℕ → OsSinitData → ModuleData → Image → FindAnswer
-image_stage window o m image = answer_by Refused (Complete (found_of image o m)) (image_rules window image o m)
+unfoldable pub image_stage : List ℕ → OsSinitData → ModuleData → Image → Result Found ℕ
+image_stage window o m image = answer_by Err (Ok (found_of image o m)) (image_rules window image o m)
 
-unfoldable pub page_stage : List ℕ → OsSinitData → ModuleData → Memory → ℕ → FindAnswer
+unfoldable pub page_stage : List ℕ → OsSinitData → ModuleData → Memory → ℕ → Result Found ℕ
 page_stage window o m memory places =
-    answer_by Refused (Complete (found_of (image_found window memory o) o m)) (page_rules window o m memory places)
+    answer_by Err (Ok (found_of (image_found window memory o) o m)) (page_rules window o m memory places)
 
-unfoldable pub find_stage : Input → FindAnswer
-find_stage i = answer_by Refused (Complete (found i)) (find_rules i)
+unfoldable pub find_stage : Input → Result Found ℕ
+find_stage i = answer_by Err (Ok (found i)) (find_rules i)
 
 -- WHAT THE POLICY DECIDES
+
+-- the answer, where the pages are found, none on a refusal, and what is shown of the digest of the pages
+pub record Outcome : Type 0 where
+  pub answer : Answer
+  pub image : Image
+  pub measurement : List ℕ
 
 -- no pages
 abbrev pub no_image : Image
@@ -51,6 +63,23 @@ permission_with f list digest =
       image = f.image;
       measurement = digest;
     }
+
+-- what is decided, as an outcome: a list that is none has the number that says so
+abbrev pub list_number : Option ℕ → ℕ
+list_number None = no_list
+list_number (Some i) = i
+
+abbrev pub permitted_shown : Permission → Outcome
+permitted_shown p =
+    record {
+      answer = record { number = 0; pages = p.image.count; list = list_number p.list; place = 0; digest = p.digest };
+      image = p.image;
+      measurement = p.digest;
+    }
+
+abbrev pub outcome_shown : Result Permission Refused → Outcome
+outcome_shown (Ok p) = permitted_shown p
+outcome_shown (Err r) = refusal_showing r.measurement (number r.refusal) (place r.refusal)
 
 abbrev pub permission : List ℕ → Found → ℕ → Outcome
 permission window f list = permission_with f list (image_digest window f.image)

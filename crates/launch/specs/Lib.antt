@@ -2,6 +2,7 @@
 pub mod Rules
 pub mod Answer
 pub mod Inner
+pub mod Refused
 pub mod Permitted
 pub mod Meaning
 pub mod Demand1

@@ -1,18 +1,20 @@
 // What the launch finds, rules 1 to 22: the platform, the heap, the SINIT module, the pages and the MLE header.
-ghost use Rattle.std.specs.Prelude.{◌≡◌, List, ℕ, ◌≤◌};
+ghost use Rattle.std.specs.Prelude.{◌≡◌, ◌≤◌};
 ghost use Rattle.rules.specs.Rules.{all};
+ghost use Rattle.rules.specs.Refusal.{numbered};
 ghost use Rattle.range.specs.Range.{ends_by, highest_end};
 ghost use Rattle.pages.specs.Memory.{memory_of};
 ghost use Rattle.pages.specs.Rules.{walk_of};
-ghost use Rattle.launch.specs.Rules.{input_of, most_reserved, reserved_numbers, reserved_tests, platform_tests, memory_from, chipset_of, found_of};
-ghost use Rattle.launch.specs.Inner.{image_stage, page_stage, find_stage};
+ghost use Rattle.launch.specs.Rules.{most_reserved, reserved_numbers, reserved_tests, platform_tests, memory_from, chipset_of, found_of};
+ghost use Rattle.launch.specs.Inner.{input, image_stage, page_stage, find_stage};
 
-use crate::{FindAnswer, Found, MOST_RESERVED, Platform, ReservedRanges};
-use heap::{HeapAnswer, OsSinitData};
+use crate::{Found, Lent, MOST_RESERVED, Platform, ReservedRanges};
+use heap::OsSinitData;
 use mle::Image;
-use pages::{MemoryRanges, WalkAnswer};
-use range::{Condition, HIGHEST_END, PAGE_SIZE, Range};
-use sinit::{Chipset, ModuleAnswer, ModuleData};
+use pages::{Mapped, MemoryRanges};
+use range::{EndsBy, HIGHEST_END, PAGE_SIZE, Range};
+use rules::{Refusal, require};
+use sinit::{Chipset, ModuleData};
 
 // The most bytes of a window, of a heap and of an STM image.
 const MOST_WINDOW: usize = 0x800_0000;
@@ -36,29 +38,30 @@ fn reserved_holds(reserved: ReservedRanges) -> bool
     }
     let numbers = reserved.numbers;
     let length = 2 * reserved.count as usize;
-    range::all_meet(Condition::EndsBy(HIGHEST_END), &numbers[..length])
+    range::all_meet(EndsBy(HIGHEST_END), &numbers[..length])
 }
 
 // Rule 1.
-fn platform_holds(window: &[u8], heap: &[u8], stm: &[u8], p: Platform) -> bool
-    ensures { result ≡ all (platform_tests window.now heap.now stm.now p) }
+fn platform_holds(lent: &Lent) -> bool
+    ensures { result ≡ all (platform_tests lent.now.window.now lent.now.heap.now lent.now.stm.now lent.now.platform) }
 {
+    let p = lent.platform;
     if p.window_base % PAGE_SIZE != 0 {
         return false;
     }
-    if MOST_WINDOW < window.len() {
+    if MOST_WINDOW < lent.window.len() {
         return false;
     }
-    if MOST_HEAP < heap.len() {
+    if MOST_HEAP < lent.heap.len() {
         return false;
     }
-    if MOST_STM < stm.len() {
+    if MOST_STM < lent.stm.len() {
         return false;
     }
-    if !ends(p.window_base, window.len() as u64) {
+    if !ends(p.window_base, lent.window.len() as u64) {
         return false;
     }
-    if !ends(p.heap_base, heap.len() as u64) {
+    if !ends(p.heap_base, lent.heap.len() as u64) {
         return false;
     }
     if !ends(p.dpr_base, p.dpr_size) {
@@ -123,28 +126,35 @@ fn memory(heap: usize, sinit: usize, p: Platform, o: OsSinitData) -> MemoryRange
 }
 
 // Rules 21 and 22, of the pages that the walk found.
-fn find_image(window: &[u8], o: OsSinitData, m: ModuleData, image: Image) -> FindAnswer
-    ensures { result ≡ image_stage window.now o m image }
+fn find_image(window: &[u8], o: OsSinitData, m: ModuleData, image: Image) -> Result<Found, Refusal>
+    ensures { numbered result ≡ image_stage window.now o m image }
 {
-    if image.count as u64 != o.mle_size / PAGE_SIZE {
-        return FindAnswer::Refused(21);
-    }
-    if !mle::header_holds(
-        window,
-        image,
-        o.mle_header_base,
-        o.mle_size,
-        m.min_mle_header_ver,
-    ) {
-        return FindAnswer::Refused(22);
-    }
-    FindAnswer::Complete(found(image, o, m))
+    require(
+        image.count as u64 == o.mle_size / PAGE_SIZE,
+        Refusal::PageCount,
+    )?;
+    require(
+        mle::header_holds(
+            window,
+            image,
+            o.mle_header_base,
+            o.mle_size,
+            m.min_mle_header_ver,
+        ),
+        Refusal::MleHeader,
+    )?;
+    Ok(found(image, o, m))
 }
 
 // Rules 14 to 20, with the reserved ranges within the count.
-fn walk(window: &[u8], memory: MemoryRanges, reserved: ReservedRanges, tables: u64) -> WalkAnswer
+fn walk(
+    window: &[u8],
+    memory: MemoryRanges,
+    reserved: ReservedRanges,
+    tables: u64,
+) -> Result<Mapped, Refusal>
     requires { reserved.count ≤ most_reserved }
-    ensures { result ≡ walk_of window.now (memory_of memory (reserved_numbers reserved)) tables }
+    ensures { numbered result ≡ walk_of window.now (memory_of memory (reserved_numbers reserved)) tables }
 {
     let numbers = reserved.numbers;
     let within = 2 * reserved.count as usize;
@@ -159,58 +169,36 @@ fn find_pages(
     memory: MemoryRanges,
     reserved: ReservedRanges,
     places: usize,
-) -> FindAnswer
+) -> Result<Found, Refusal>
     requires { reserved.count ≤ most_reserved }
-    ensures { result ≡ page_stage window.now o m (memory_of memory (reserved_numbers reserved)) places }
+    ensures { numbered result ≡ page_stage window.now o m (memory_of memory (reserved_numbers reserved)) places }
 {
-    if !mle::size_holds(o.mle_size) {
-        return FindAnswer::Refused(12);
-    }
-    if (places as u64) < o.mle_size / PAGE_SIZE {
-        return FindAnswer::Refused(13);
-    }
-    match walk(window, memory, reserved, o.page_table_base) {
-        WalkAnswer::Refused(n) => FindAnswer::Refused(n),
-        WalkAnswer::Mapped { first, count } => {
-            let image = Image {
-                window: memory.window,
-                tables: o.page_table_base,
-                first,
-                count,
-            };
-            find_image(window, o, m, image)
-        }
-    }
+    require(mle::size_holds(o.mle_size), Refusal::MleSize)?;
+    require(o.mle_size / PAGE_SIZE <= places as u64, Refusal::PageList)?;
+    let mapped = walk(window, memory, reserved, o.page_table_base)?;
+    let image = Image {
+        window: memory.window,
+        tables: o.page_table_base,
+        first: mapped.first,
+        count: mapped.count,
+    };
+    find_image(window, o, m, image)
 }
 
 // Rules 1 to 22, for a page list of so many places.
-pub(crate) fn find(
-    window: &[u8],
-    heap: &[u8],
-    sinit: &[u8],
-    stm: &[u8],
-    p: Platform,
-    places: usize,
-) -> FindAnswer
-    ensures { (policy_record : List ℕ) → result ≡ find_stage (input_of window.now heap.now sinit.now policy_record stm.now p places) }
+pub(crate) fn find(lent: &Lent, places: usize) -> Result<Found, Refusal>
+    ensures { numbered result ≡ find_stage (input lent.now places) }
 {
-    if !platform_holds(window, heap, stm, p) {
-        return FindAnswer::Refused(1);
-    }
-    match heap::read(heap) {
-        HeapAnswer::Refused(n) => FindAnswer::Refused(n),
-        HeapAnswer::OsSinit(o) => match sinit::read(
-            sinit,
-            p.sinit_base,
-            p.acram_capacity,
-            chipset(p),
-            o.version,
-        ) {
-            ModuleAnswer::Refused(n) => FindAnswer::Refused(n),
-            ModuleAnswer::Module(m) => {
-                let memory = memory(heap.len(), sinit.len(), p, o);
-                find_pages(window, o, m, memory, p.reserved, places)
-            }
-        },
-    }
+    require(platform_holds(lent), Refusal::Limits)?;
+    let p = lent.platform;
+    let o = heap::read(lent.heap)?;
+    let m = sinit::read(
+        lent.sinit,
+        p.sinit_base,
+        p.acram_capacity,
+        chipset(p),
+        o.version,
+    )?;
+    let memory = memory(lent.heap.len(), lent.sinit.len(), p, o);
+    find_pages(lent.window, o, m, memory, p.reserved, places)
 }

@@ -10,13 +10,15 @@ mod find;
 ghost use Rattle.std.specs.Prelude.{◌≡◌, length};
 ghost use Rattle.launch.specs.Rules.{input_of};
 ghost use Rattle.launch.specs.Answer.{answer_of, places_of, measurement_of};
-ghost use Rattle.launch.specs.Inner.{outcome_of};
+ghost use Rattle.launch.specs.Inner.{input, outcome_of, outcome_shown, permitted_shown};
+ghost use Rattle.launch.specs.Refused.{early};
 
-use answer::Answer;
-use decide::{decide, refusal};
+use answer::{Answer, NO_LIST};
+use decide::decide;
 use find::find;
 use mle::Image;
 use range::Range;
+use rules::Refusal;
 
 // The most ranges that a platform reserves.
 pub const MOST_RESERVED: u32 = 16;
@@ -57,36 +59,62 @@ pub struct Found {
     pub acm_version: u64,
 }
 
-// What the launch finds where rules 1 to 22 hold, or the number of the first that fails.
+// A permission: where the pages of the MLE are found, the list that permits, none under ANY, and the digest of the pages.
 #[derive(Clone, Copy)]
-pub enum FindAnswer {
-    Complete(Found),
-    Refused(u32),
+pub struct Permission {
+    pub image: Image,
+    pub list: Option<u32>,
+    pub digest: [u8; 32],
 }
 
-// The answer, where the pages of the MLE are found, none on a refusal, and the digest of the pages where it is shown, on a permission and on 29.
+// A refusal, and what it shows of the digest of the pages: on 29 the digest, else zeros.
 #[derive(Clone, Copy)]
-pub struct Outcome {
-    pub answer: Answer,
-    pub image: Image,
+pub struct Refused {
+    pub refusal: Refusal,
     pub measurement: [u8; 32],
 }
 
+impl From<Refusal> for Refused {
+    ghost from_gives = { λ r x. x ≡ early r };
+
+    // By a rule that is tried before the image is hashed.
+    fn from(refusal: Refusal) -> Refused {
+        Refused {
+            refusal,
+            measurement: [0u8; 32],
+        }
+    }
+}
+
+// What is lent for reading, and the numbers of the platform.
+#[derive(Clone, Copy)]
+pub(crate) struct Lent<'a> {
+    pub(crate) window: &'a [u8],
+    pub(crate) heap: &'a [u8],
+    pub(crate) sinit: &'a [u8],
+    pub(crate) policy_record: &'a [u8],
+    pub(crate) stm: &'a [u8],
+    pub(crate) platform: Platform,
+}
+
 // All rules, for a page list of so many places.
-fn judge(
-    window: &[u8],
-    heap: &[u8],
-    sinit: &[u8],
-    record: &[u8],
-    stm: &[u8],
-    platform: Platform,
-    places: usize,
-) -> Outcome
-    ensures { result ≡ outcome_of (input_of window.now heap.now sinit.now «record».now stm.now platform places) }
+fn judge(lent: &Lent, places: usize) -> Result<Permission, Refused>
+    ensures { outcome_shown result ≡ outcome_of (input lent.now places) }
 {
-    match find(window, heap, sinit, stm, platform, places) {
-        FindAnswer::Refused(n) => refusal(n, 0),
-        FindAnswer::Complete(f) => decide(window, record, stm, f),
+    let found = find(lent, places)?;
+    decide(lent, found)
+}
+
+// The answer of a permission.
+fn permitted(p: Permission) -> Answer
+    ensures { result ≡ (permitted_shown p).answer }
+{
+    Answer {
+        number: 0,
+        pages: p.image.count,
+        list: p.list.unwrap_or(NO_LIST),
+        place: 0,
+        digest: p.digest,
     }
 }
 
@@ -106,12 +134,25 @@ pub fn check_measured(
     ensures places { pages.new ≡ places_of (input_of window.now heap.now sinit.now «record».now stm.now platform (length pages.old)) pages.old }
     ensures measurement { measurement.new ≡ measurement_of (input_of window.now heap.now sinit.now «record».now stm.now platform (length pages.old)) }
 {
-    let outcome = judge(window, heap, sinit, record, stm, platform, pages.len());
-    let image = outcome.image;
-    mle::write_pages(window, image, pages);
-    let shown = outcome.measurement;
-    *measurement = shown;
-    outcome.answer
+    let lent = Lent {
+        window,
+        heap,
+        sinit,
+        policy_record: record,
+        stm,
+        platform,
+    };
+    match judge(&lent, pages.len()) {
+        Ok(permission) => {
+            mle::write_pages(window, permission.image, pages);
+            *measurement = permission.digest;
+            permitted(permission)
+        }
+        Err(refused) => {
+            *measurement = refused.measurement;
+            Answer::from(refused.refusal)
+        }
+    }
 }
 
 // The same without the measurement.

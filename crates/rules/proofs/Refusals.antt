@@ -71,6 +71,27 @@ pub goes_on : (b : Bool) (x : Refusal) (u : ⊤) {r : Step} → r ≡ cond b (Ok
 goes_on true x u q h = refl
 goes_on false x u q h = absurd (not_both (sym h ∙ q))
 
+-- WHAT A `?` RETURNS: the refusal that came from the stage before it
+
+module _ {A : Type 0} where
+  abbrev Returned : Result A Refusal → Refusal → Type 0
+  Returned r e = (y : Refusal) × (r ≡ Err y) × (y ≡ e)
+
+  pub returned : {r : Result A Refusal} {e : Refusal} → Returned r e → numbered r ≡ Err (number e)
+  returned p = ap numbered (p.1 ∙ ap Err p.2)
+
+  -- from another stage that gives a value or refuses
+  pub returned_from : {B : Type 0} {r : Result A Refusal} {s : Result B Refusal} {e : Refusal} {m : Result B ℕ} → Returned r e → s ≡ Err e → numbered s ≡ m
+      → (numbered r ≡ Err (number e)) × (m ≡ Err (number e))
+  returned_from p was is = (returned p, sym is ∙ ap numbered was)
+
+  -- from `require`
+  pub returned_required : (b : Bool) (x : Refusal) {r : Result A Refusal} {s : Step} {e : Refusal} → Returned r e → s ≡ cond b (Ok tt) (Err x) → s ≡ Err e
+      → (b ≡ false) × (numbered r ≡ Err (number x))
+  returned_required b x p is was =
+      let h = stops b x is was in
+      (h.0, returned p ∙ ap (λ (y : Refusal). Err (number y)) h.1)
+
 -- ANSWERS BY RULES: a value where all hold, else the number of the first that fails
 
 module _ {A : Type 0} where
@@ -104,9 +125,9 @@ module _ {A : Type 0} where
       pub value_after : 0 ≡ k → numbered (Ok a) ≡ answer_for Err (Ok a) k
       value_after f = sym (for_zero Err (Ok a) k (sym f))
 
-      -- what a `?` returns: the refusal of the stage before it
-      pub refusal_at : {r : Result A Refusal} {e : Refusal} → ((y : Refusal) × (r ≡ Err y) × (y ≡ e)) → number e ≡ k → numbered r ≡ answer_for Err (Ok a) k
-      refusal_at {r} {e} p f = ap numbered (p.1 ∙ ap Err p.2) ∙ refusal_by e f
+      -- where a stage before stops
+      pub refusal_at : {r : Result A Refusal} {e : Refusal} → Returned r e → number e ≡ k → numbered r ≡ answer_for Err (Ok a) k
+      refusal_at {r} {e} p f = returned p ∙ refusal_by e f
 
     -- by what the rules mean
     module _ (rs : List Rule) (ps : List Meaning) (agree : Agree rs ps) where

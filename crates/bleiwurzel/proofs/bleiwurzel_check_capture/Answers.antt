@@ -4,4 +4,5 @@ use Rattle.bleiwurzel.proofs.bleiwurzel_check_capture.Goals as goal
 
 pub returns : goal.returns
 returns c =
-    as_given c.check-r.result _ _ _ c.check-r.ensures.answer c.check-r.ensures.places
+    let g = c.give.ensures in
+    as_given _ _ _ _ c.check-r.ensures.answer c.check-r.ensures.places g.number g.counts g.place g.digest

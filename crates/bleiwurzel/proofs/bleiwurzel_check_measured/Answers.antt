@@ -4,4 +4,5 @@ use Rattle.bleiwurzel.proofs.bleiwurzel_check_measured.Goals as goal
 
 pub returns : goal.returns
 returns c =
-    (as_given c.check_measured-a.result _ _ _ c.check_measured-a.ensures.answer c.check_measured-a.ensures.places, c.check_measured-a.ensures.measurement)
+    let g = c.give.ensures in
+    (as_given _ _ _ _ c.check_measured-a.ensures.answer c.check_measured-a.ensures.places g.number g.counts g.place g.digest, c.check_measured-a.ensures.measurement)

@@ -7,7 +7,7 @@ use Rattle.capture.proofs.check.Goals as goal
 pub returns-then-not-holds : goal.returns-then-not-holds
 returns-then-not-holds c =
     let r = no_capture c.args.s.now _ c.holds.ensures c.if-not-holds.true _ c.args.pages.now in
-    record { answer = c.refused.ensures ∙ r.0; places = r.1 }
+    record { answer = c.from.ensures ∙ r.0; places = r.1 }
 
 pub slice_bounds-check-end : goal.slice_bounds-check-end
 slice_bounds-check-end c =

@@ -1,4 +1,4 @@
-use Prim.Native.Nat.{◌-◌, ◌*◌, ◌≤◌}
+use Prim.Native.Nat.{◌*◌}
 use mathlib.Core.Path.{◌≡◌}
 use Rattle.launch.specs.Rules.{most_reserved}
 use Rattle.capture.specs.Capture.{ranges_at}
@@ -6,7 +6,4 @@ use Rattle.capture.proofs.Ranges.{filled}
 use Rattle.capture.proofs.reserved.Given as goal
 
 abbrev pub invariant-loop-k : goal.invariant-loop-k
-invariant-loop-k l = (l.k ≤ 2 * l.count) × (l.numbers ≡ filled l.s ranges_at (2 * most_reserved) l.k)
-
-abbrev pub decreases-loop-k : goal.decreases-loop-k
-decreases-loop-k l = 2 * l.count - l.k
+invariant-loop-k l = l.numbers ≡ filled l.s ranges_at (2 * most_reserved) l.k

@@ -89,11 +89,11 @@ seen_type Custom = custom_type
 seen_type (Unjudged type) = type
 
 -- b is the body's bytes
-abbrev pub body_seen : ElementBody → List ℕ → Grammar.Body
-body_seen (Launch m v a n) b = Grammar.launch (record { sinit_min_version = m; reserved = v; digests = seen_digests a n (drop 6 b) })
-body_seen (Stm a n) b = Grammar.stm (seen_digests a n (drop 4 b))
-body_seen Custom b = Grammar.other b
-body_seen (Unjudged type) b = Grammar.other b
+abbrev pub as_body : ElementBody → List ℕ → Grammar.Body
+as_body (Launch m v a n) b = Grammar.launch (record { sinit_min_version = m; reserved = v; digests = seen_digests a n (drop 6 b) })
+as_body (Stm a n) b = Grammar.stm (seen_digests a n (drop 4 b))
+as_body Custom b = Grammar.other b
+as_body (Unjudged type) b = Grammar.other b
 
 abbrev pub seen_element : List ℕ → ElementAnswer → Option Element
 seen_element s None = none
@@ -102,7 +102,7 @@ seen_element s (Some e) =
       size = e.size;
       type = seen_type e.body;
       control = e.control;
-      body = body_seen e.body (drop 12 (part_at s e.start e.size));
+      body = as_body e.body (drop 12 (part_at s e.start e.size));
     })
 
 -- the body of an element that is there: its bytes

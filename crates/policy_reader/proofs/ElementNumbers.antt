@@ -1,7 +1,7 @@
 -- The numbers of the fields of an element that stands at the front of a string: those that the string has at the fields' offsets.
 use Prim.Native.Nat.{ℕ, ◌+◌, ◌≤◌, ◌<◌, ◌^◌}
 use native.Mathlib.Omega.{arith}
-use mathlib.Core.Path.{◌≡◌, ap, sym, ◌∙◌}
+use mathlib.Core.Path.{◌≡◌, refl, ap, sym, ◌∙◌}
 use mathlib.Core.List.{List, ◌++◌}
 use lib.ListN.{length, get_or, drop, length-drop, length-append}
 use lib.Seq.{drop-drop}
@@ -20,11 +20,11 @@ use Rattle.policy_grammar.specs.Decode as Decode
 use Rattle.policy_grammar.proofs.Soundness.{reads_sound}
 use Rattle.policy_grammar.proofs.Decoding.{element_sound}
 use Rattle.policy_answers.specs.Answers.{body_shown, element_shown}
-use Rattle.policy_answers.specs.declared.ElementAnswer.{ElementAnswer}
-use Rattle.policy_answers.specs.declared.ElementAnswer.TheVariants.{Launch, Stm, Custom, Unjudged, Refused}
-use Rattle.policy_reader.specs.Inner.{extent_of}
-use Rattle.policy_reader.specs.declared.Extent.{Extent}
-use Rattle.policy_reader.specs.declared.Extent.TheVariants.{Size, Fault}
+use Rattle.policy_answers.specs.declared.ElementBody.{ElementBody}
+use Rattle.policy_answers.specs.Types.{ElementAnswer}
+use Rattle.policy_reader.specs.Inner.{Extent, extent_of, body_numbers}
+use Rattle.std.specs.Prelude.{Ok, Err, Some, None}
+use Rattle.field.specs.declared.Fault.{Fault}
 use Rattle.policy_reader.proofs.ReadExtents.{size_read, fault_read}
 
 -- a number of k bytes stands at an offset
@@ -37,7 +37,7 @@ module _ (t : List ℕ) (at k x : ℕ) (u : List ℕ) (l : 1 ≤ k) (h : k ≤ 8
 
 -- AN ELEMENT
 
-module _ (t rest : List ℕ) (start size type control : ℕ) where
+module _ (t rest : List ℕ) (type : ℕ) where
   -- by its body
   abbrev Follows : Body → Type 0
   Follows b = drop 12 t ≡ body_bytes b ++ rest
@@ -54,33 +54,17 @@ module _ (t rest : List ℕ) (start size type control : ℕ) where
     stands_number t (12 + k + 2) 2 d.count _ (lit≤ tt) (lit≤ tt) (sym (drop-drop 2 (12 + k) t) ∙ ap (drop 2) e) v.count_fits en,
   )
 
-  shown_launch : (b : Body) → ValidBody type b → Follows b → type ≡ launch_type
-      → (m v a n : ℕ) → m ≡ number_at t 12 1 → v ≡ number_at t 13 1 → a ≡ number_at t 14 2 → n ≡ number_at t 16 2 → Launch start size control m v a n ≡ body_shown start size type control b
+  numbers_are : (b : Body) → ValidBody type b → Follows b → body_numbers t type ≡ body_shown type b
   unfolding bytes
-  shown_launch (Grammar.launch b) h f e m v a n em ev ea en =
-      let i : m ≡ b.sinit_min_version = stands_number t 12 1 b.sinit_min_version _ (lit≤ tt) (lit≤ tt) f h.1.version_fits em in
-      let j : v ≡ b.reserved = stands_number t 13 1 b.reserved _ (lit≤ tt) (lit≤ tt) (later 1 _ (ap (drop 1) f)) h.1.reserved_fits ev in
-      let (x, y) = digests_numbers 2 b.digests h.1.digests_valid (later 2 _ (ap (drop 2) f)) ea en in
-      rw (i, j, x, y)
-  shown_launch (Grammar.stm d) h f e m v a n em ev ea en = absurd (omega (arith, h.0))
-  shown_launch (Grammar.other b) h f e m v a n em ev ea en = absurd (h.0 e)
-
-  shown_stm : (b : Body) → ValidBody type b → Follows b → type ≡ stm_type
-      → (a n : ℕ) → a ≡ number_at t 12 2 → n ≡ number_at t 14 2 → Stm start size control a n ≡ body_shown start size type control b
-  shown_stm (Grammar.launch b) h f e a n ea en = absurd (omega (arith, h.0))
-  shown_stm (Grammar.stm d) h f e a n ea en = let (x, y) = digests_numbers 0 d h.1 f ea en in rw (x, y)
-  shown_stm (Grammar.other b) h f e a n ea en = absurd (h.1 e)
-
-  shown_custom : (b : Body) → ValidBody type b → type ≡ custom_type → Custom start size control ≡ body_shown start size type control b
-  shown_custom (Grammar.launch b) h e = absurd (omega (arith, h.0))
-  shown_custom (Grammar.stm d) h e = absurd (omega (arith, h.0))
-  shown_custom (Grammar.other b) h e = rw (eq-eqb type custom_type e)
-
-  shown_unjudged : (b : Body) → ValidBody type b → (type ≡ launch_type → ⊥) → (type ≡ stm_type → ⊥) → (type ≡ custom_type → ⊥)
-      → Unjudged start size type control ≡ body_shown start size type control b
-  shown_unjudged (Grammar.launch b) h nl ns nc = absurd (nl h.0)
-  shown_unjudged (Grammar.stm d) h nl ns nc = absurd (ns h.0)
-  shown_unjudged (Grammar.other b) h nl ns nc = rw (ne_eqb type custom_type nc)
+  numbers_are (Grammar.launch b) h f =
+      let i : number_at t 12 1 ≡ b.sinit_min_version = stands_number t 12 1 b.sinit_min_version _ (lit≤ tt) (lit≤ tt) f h.1.version_fits refl in
+      let j : number_at t 13 1 ≡ b.reserved = stands_number t 13 1 b.reserved _ (lit≤ tt) (lit≤ tt) (later 1 _ (ap (drop 1) f)) h.1.reserved_fits refl in
+      let (x, y) = digests_numbers 2 b.digests h.1.digests_valid (later 2 _ (ap (drop 2) f)) refl refl in
+      rw (eq-eqb type launch_type h.0, i, j, x, y)
+  numbers_are (Grammar.stm d) h f =
+      let (x, y) = digests_numbers 0 d h.1 f refl refl in
+      rw (ne_eqb type launch_type (λ e. omega (arith, h.0)), eq-eqb type stm_type h.0, x, y)
+  numbers_are (Grammar.other b) h f = rw (ne_eqb type launch_type h.0, ne_eqb type stm_type h.1)
 
 -- an element that stands at the front
 pub record ElementAtFront (t : List ℕ) (size : ℕ) (e : Element) : Type 0 where
@@ -96,10 +80,10 @@ module _ (t : List ℕ) (start : ℕ) (b : (i : ℕ) → Fits w8 (get_or t i 0))
   abbrev shown : ElementAnswer
   shown = element_shown start (value_of (Decode.element t))
 
-  pub answers_none : (p : ℕ) → w ≡ Fault p → Refused ≡ shown
-  answers_none p q = rw (fault_read (read Layout.element t) p (sym ew ∙ q))
+  pub answers_none : (f : Fault) → w ≡ Err f → None ≡ shown
+  answers_none f q = rw (fault_read (read Layout.element t) f (sym ew ∙ q))
 
-  module _ (size : ℕ) (qw : w ≡ Size size) where
+  module _ (size : ℕ) (qw : w ≡ Ok size) where
     there : (e : Element) × (Decode.element t ≡ value e size)
     there = size_read (read Layout.element t) size (sym ew ∙ qw)
 
@@ -121,20 +105,7 @@ module _ (t : List ℕ) (start : ℕ) (b : (i : ℕ) → Fits w8 (get_or t i 0))
       unfolding bytes
       control_is = stands_number t 8 4 e.control _ (lit≤ tt) (lit≤ tt) (sym (drop-drop 4 4 t) ∙ ap (drop 4) front.type_at) front.valid.control_fits ec
 
-      is : body_shown start size kind control e.body ≡ shown
-      is = rw (there.1, kind_is, control_is, front.sized)
-
-      valid_body : ValidBody kind e.body
-      valid_body = rw kind_is front.valid.body_valid
-
-      pub answers_launch : kind ≡ launch_type → (m v a n : ℕ) → m ≡ number_at t 12 1 → v ≡ number_at t 13 1 → a ≡ number_at t 14 2 → n ≡ number_at t 16 2 → Launch start size control m v a n ≡ shown
-      answers_launch q m v a n em ev ea en = shown_launch t (drop size t) start size kind control e.body valid_body follows q m v a n em ev ea en ∙ is
-
-      pub answers_stm : kind ≡ stm_type → (a n : ℕ) → a ≡ number_at t 12 2 → n ≡ number_at t 14 2 → Stm start size control a n ≡ shown
-      answers_stm q a n ea en = shown_stm t (drop size t) start size kind control e.body valid_body follows q a n ea en ∙ is
-
-      pub answers_custom : kind ≡ custom_type → Custom start size control ≡ shown
-      answers_custom q = shown_custom t (drop size t) start size kind control e.body valid_body q ∙ is
-
-      pub answers_unjudged : (kind ≡ launch_type → ⊥) → (kind ≡ stm_type → ⊥) → (kind ≡ custom_type → ⊥) → Unjudged start size kind control ≡ shown
-      answers_unjudged nl ns nc = shown_unjudged t (drop size t) start size kind control e.body valid_body nl ns nc ∙ is
+      pub answers_element : (b : ElementBody) → b ≡ body_numbers t kind → Some (record { start = start; size = size; control = control; body = b }) ≡ shown
+      answers_element b eb =
+          let i : b ≡ body_shown e.type e.body = eb ∙ rw kind_is (numbers_are t (drop size t) e.type e.body front.valid.body_valid follows) in
+          rw (there.1, control_is, i, front.sized)

@@ -10,8 +10,6 @@ use lib.Seq.{length-take-le}
 use lib.Dec.{leb, lit<}
 use borrow.Author.Tests.{le-leb, lt-leb, eq-eqb, ne_eqb}
 use Rattle.field.specs.Field.{field_at, number_at, value_of}
-use Rattle.field.specs.declared.Field.{Field}
-use Rattle.field.specs.declared.Field.TheVariants.{Number, Outside}
 use Rattle.field.proofs.Laws.{from_offset}
 use Rattle.policy_grammar.specs.Grammar.{digest_length, Digests, Body, launch_type, stm_type, Element}
 use Rattle.policy_grammar.specs.Grammar as Grammar
@@ -22,13 +20,13 @@ use Rattle.policy_grammar.proofs.Formats.{read_then}
 use Rattle.policy_grammar.proofs.Soundness.{filling_value}
 use Rattle.policy_grammar.proofs.Decoding.{body_complete}
 use Rattle.policy_grammar.proofs.Heads.{Upto, upto_start, number_holds, number_wrong, inside_read}
-use Rattle.policy_reader.specs.Inner.{extent_of, further}
-use Rattle.policy_reader.specs.declared.Extent.{Extent}
-use Rattle.policy_reader.specs.declared.Extent.TheVariants.{Size, Fault}
+use Rattle.policy_reader.specs.Inner.{Extent, fault_at, extent_of, further}
+use Rattle.std.specs.Prelude.{Result, Ok, Err}
+use Rattle.field.specs.declared.Fault.{Fault}
 use Rattle.policy_reader.proofs.ReadExtents.{fitting, number_outside, faulty, further_none, last_extent, last_filling}
 
 -- a count of 16 bits times a digest's length fits
-module _ (g : Field) (n k : ℕ) (h : value_of g < 256 ^ 2) (e : g ≡ Number n) (l : k ≤ 64) where
+module _ (g : Result ℕ Fault) (n k : ℕ) (h : value_of g < 256 ^ 2) (e : g ≡ Ok n) (l : k ≤ 64) where
   small_product : n * k < 2 ^ 32
   unfolding value_of
   small_product = lt_of_le_of_lt (mul-le-mul {n₂ = 65536} {m₂ = 64} (le_of_lt (rw e at h)) l) (lit< tt)
@@ -58,7 +56,7 @@ strings_read (suc n) k s h =
     let (ds, e) = strings_read n k (drop k s) (rw length-drop (omega arith)) in
     (take k s ∷ ds, rw (le-leb k (length s) (omega arith), read_then, e) (ap (value (take k s ∷ ds)) (omega arith)))
 
-module _ (t : List ℕ) (f : Field) (ef : f ≡ field_at t 0 2) where
+module _ (t : List ℕ) (f : Result ℕ Fault) (ef : f ≡ field_at t 0 2) where
   abbrev digests : Extent
   digests = extent_of (filling Layout.digests t)
 
@@ -66,33 +64,33 @@ module _ (t : List ℕ) (f : Field) (ef : f ≡ field_at t 0 2) where
   unfolding Layout.digests
   from_alg = upto_start Layout.digests t
 
-  pub alg_outside : (x : ℕ) → f ≡ Outside x → Fault x ≡ digests
-  alg_outside x q = faulty Layout.digests t x (number_outside Layout.digests t 0 2 alg_rule _ from_alg tt tt (omega arith) f ef x q)
+  pub alg_outside : (x : Fault) → f ≡ Err x → Err x ≡ digests
+  alg_outside x q = faulty Layout.digests t x.at (number_outside Layout.digests t 0 2 alg_rule _ from_alg tt tt (omega arith) f ef x q)
 
-  module _ (a : ℕ) (qa : f ≡ Number a) (k : ℕ) (ek : k ≡ digest_length a) where
+  module _ (a : ℕ) (qa : f ≡ Ok a) (k : ℕ) (ek : k ≡ digest_length a) where
     alg_fits : (a ≡ number_at t 0 2) × (2 ≤ length t)
     alg_fits = fitting t 0 2 tt tt f ef a qa
 
-    pub alg_unknown : k ≡ 0 → Fault 0 ≡ digests
+    pub alg_unknown : k ≡ 0 → Err (fault_at 0) ≡ digests
     alg_unknown z =
         faulty Layout.digests t 0
         (number_wrong Layout.digests t 0 2 alg_rule _ from_alg tt tt alg_fits.0 alg_fits.1 (lt-leb 1 (digest_length a) (omega arith)))
 
-    module _ (known : k ≡ 0 → ⊥) (g : Field) (eg : g ≡ field_at t 2 2) where
+    module _ (known : k ≡ 0 → ⊥) (g : Result ℕ Fault) (eg : g ≡ field_at t 2 2) where
       from_count : Upto Layout.digests t 2 (number 2 (count_rule a) >>= digests_of a)
       from_count = number_holds Layout.digests t 0 2 alg_rule _ from_alg tt tt alg_fits.0 alg_fits.1 (le-leb 1 (digest_length a) (omega (arith, known)))
 
-      pub count_outside : (x : ℕ) → g ≡ Outside x → Fault x ≡ digests
-      count_outside x q = faulty Layout.digests t x (number_outside Layout.digests t 2 2 (count_rule a) (digests_of a) from_count tt tt alg_fits.1 g eg x q)
+      pub count_outside : (x : Fault) → g ≡ Err x → Err x ≡ digests
+      count_outside x q = faulty Layout.digests t x.at (number_outside Layout.digests t 2 2 (count_rule a) (digests_of a) from_count tt tt alg_fits.1 g eg x q)
 
-      module _ (n : ℕ) (qn : g ≡ Number n) where
+      module _ (n : ℕ) (qn : g ≡ Ok n) where
         count_fits : (n ≡ number_at t 2 2) × (4 ≤ length t)
         count_fits = fitting t 2 2 tt tt g eg n qn
 
         product : n * digest_length a ≡ n * k
         product = rw ek
 
-        pub count_over : length t < 4 + n * k → Fault 2 ≡ digests
+        pub count_over : length t < 4 + n * k → Err (fault_at 2) ≡ digests
         count_over l =
             faulty Layout.digests t 2
             (number_wrong Layout.digests t 2 2 (count_rule a) (digests_of a) from_count tt tt count_fits.0 count_fits.1
@@ -106,16 +104,16 @@ module _ (t : List ℕ) (f : Field) (ef : f ≡ field_at t 0 2) where
             let d : Digests = record { hash_alg = a; count = n; digests = ds } in
             (d, u ∙ rw (read_then, e) (ap (value d) (omega (arith, product))))
 
-        pub digests_extra : 4 + n * k ≤ length t → 4 + n * k < length t → Fault (4 + n * k) ≡ digests
+        pub digests_extra : 4 + n * k ≤ length t → 4 + n * k < length t → Err (fault_at (4 + n * k)) ≡ digests
         unfolding exactly
         digests_extra l m = rw ((counted l).1, ne_eqb (4 + n * k) (length t) (λ e. omega arith))
 
-        pub digests_fill : 4 + n * k ≤ length t → length t ≤ 4 + n * k → Size (4 + n * k) ≡ digests
+        pub digests_fill : 4 + n * k ≤ length t → length t ≤ 4 + n * k → Ok (4 + n * k) ≡ digests
         unfolding exactly
         digests_fill l m = rw ((counted l).1, eq-eqb (4 + n * k) (length t) (omega arith))
 
 -- a launch element's body
-module _ (b : List ℕ) (f : Field) (ef : f ≡ field_at b 0 1) where
+module _ (b : List ℕ) (f : Result ℕ Fault) (ef : f ≡ field_at b 0 1) where
   abbrev launched : Extent
   launched = extent_of (filling Layout.launch b)
 
@@ -126,27 +124,27 @@ module _ (b : List ℕ) (f : Field) (ef : f ≡ field_at b 0 1) where
   unfolding Layout.launch
   from_minimum = upto_start Layout.launch b
 
-  pub minimum_outside : (x : ℕ) → f ≡ Outside x → Fault x ≡ launched
-  minimum_outside x q = faulty Layout.launch b x (number_outside Layout.launch b 0 1 any _ from_minimum tt tt (omega arith) f ef x q)
+  pub minimum_outside : (x : Fault) → f ≡ Err x → Err x ≡ launched
+  minimum_outside x q = faulty Layout.launch b x.at (number_outside Layout.launch b 0 1 any _ from_minimum tt tt (omega arith) f ef x q)
 
-  module _ (m : ℕ) (qm : f ≡ Number m) (g : Field) (eg : g ≡ field_at b 1 1) where
+  module _ (m : ℕ) (qm : f ≡ Ok m) (g : Result ℕ Fault) (eg : g ≡ field_at b 1 1) where
     minimum_fits : (m ≡ number_at b 0 1) × (1 ≤ length b)
     minimum_fits = fitting b 0 1 tt tt f ef m qm
 
     from_reserved : Upto Layout.launch b 1 (number 1 any >>= λ v. Layout.digests >>= λ ds. done (with m v ds))
     from_reserved = number_holds Layout.launch b 0 1 any _ from_minimum tt tt minimum_fits.0 minimum_fits.1 refl
 
-    pub reserved_outside : (x : ℕ) → g ≡ Outside x → Fault x ≡ launched
-    reserved_outside x q = faulty Layout.launch b x (number_outside Layout.launch b 1 1 any _ from_reserved tt tt minimum_fits.1 g eg x q)
+    pub reserved_outside : (x : Fault) → g ≡ Err x → Err x ≡ launched
+    reserved_outside x q = faulty Layout.launch b x.at (number_outside Layout.launch b 1 1 any _ from_reserved tt tt minimum_fits.1 g eg x q)
 
-    pub launch_digests : (v : ℕ) → g ≡ Number v → (x : Extent) → x ≡ extent_of (filling Layout.digests (take (length b - 2) (drop 2 b))) → (r : Extent) → r ≡ further 2 x → r ≡ launched
+    pub launch_digests : (v : ℕ) → g ≡ Ok v → (x : Extent) → x ≡ extent_of (filling Layout.digests (take (length b - 2) (drop 2 b))) → (r : Extent) → r ≡ further 2 x → r ≡ launched
     launch_digests v qv x ex r er =
         let (i, l) = fitting b 1 1 tt tt g eg v qv in
         let u = number_holds Layout.launch b 1 1 any _ from_reserved tt tt i l refl in
         er ∙ ap (further 2) (ex ∙ ap (λ (s : List ℕ). extent_of (filling Layout.digests s)) (from_offset b 2)) ∙ sym (last_filling Layout.launch b 2 Layout.digests (with m v) u l)
 
 -- the field behind SINITMinVersion is there
-pub reserved_fits : (b : List ℕ) (g : Field) → g ≡ field_at b 1 1 → (v : ℕ) → g ≡ Number v → 2 ≤ length b
+pub reserved_fits : (b : List ℕ) (g : Result ℕ Fault) → g ≡ field_at b 1 1 → (v : ℕ) → g ≡ Ok v → 2 ≤ length b
 reserved_fits b g e v q = (fitting b 1 1 tt tt g e v q).1
 
 -- a body, by its type
@@ -165,7 +163,7 @@ module _ (b : List ℕ) (t : ℕ) where
         let all = last_filling Layout.stm b 0 Layout.digests Grammar.stm (upto_start Layout.stm b) (omega arith) ∙ further_none (extent_of (filling Layout.digests b)) in
         rw (e, all) q
 
-    pub body_other : (t ≡ stm_type → ⊥) → Size (length b) ≡ filled
+    pub body_other : (t ≡ stm_type → ⊥) → Ok (length b) ≡ filled
     body_other ns = sym (ap extent_of (filling_value (Layout.body t) b (Grammar.other b) (body_complete t (Grammar.other b) (nl, ns))))
 
 -- the element at the front of t
@@ -178,7 +176,7 @@ element_of n t c b = record { size = n; type = t; control = c; body = b }
 abbrev body_of : ℕ → ℕ → ℕ → Format Element
 body_of n t c = inside (n - 12) (Layout.body t) >>= λ b. done (element_of n t c b)
 
-module _ (s : List ℕ) (f : Field) (ef : f ≡ field_at s 0 4) where
+module _ (s : List ℕ) (f : Result ℕ Fault) (ef : f ≡ field_at s 0 4) where
   abbrev judged : Extent
   judged = extent_of (read Layout.element s)
 
@@ -186,20 +184,20 @@ module _ (s : List ℕ) (f : Field) (ef : f ≡ field_at s 0 4) where
   unfolding Layout.element
   from_size = upto_start Layout.element s
 
-  pub element_outside : (x : ℕ) → f ≡ Outside x → Fault x ≡ judged
+  pub element_outside : (x : Fault) → f ≡ Err x → Err x ≡ judged
   element_outside x q = rw (number_outside Layout.element s 0 4 size_rule _ from_size tt tt (omega arith) f ef x q)
 
-  module _ (n : ℕ) (qn : f ≡ Number n) where
+  module _ (n : ℕ) (qn : f ≡ Ok n) where
     size_fits : (n ≡ number_at s 0 4) × (4 ≤ length s)
     size_fits = fitting s 0 4 tt tt f ef n qn
 
-    wrong_size : size_rule (length s - 4) n ≡ false → Fault 0 ≡ judged
+    wrong_size : size_rule (length s - 4) n ≡ false → Err (fault_at 0) ≡ judged
     wrong_size o = rw (number_wrong Layout.element s 0 4 size_rule _ from_size tt tt size_fits.0 size_fits.1 o)
 
-    pub element_small : n < 12 → Fault 0 ≡ judged
+    pub element_small : n < 12 → Err (fault_at 0) ≡ judged
     element_small g = wrong_size (rw (lt-leb 12 n g))
 
-    pub element_long : length s < n → Fault 0 ≡ judged
+    pub element_long : length s < n → Err (fault_at 0) ≡ judged
     element_long g = wrong_size (rw (lt-leb n (4 + (length s - 4)) (omega (arith, size_fits.1))) (and-false (leb 12 n)))
 
     module _ (l : 12 ≤ n) (u : n ≤ length s) (t : ℕ) (et : t ≡ number_at s 4 4) where

@@ -22,23 +22,28 @@ use Rattle.policy_grammar.specs.Decode as Decode
 use Rattle.policy_grammar.proofs.Soundness.{reads_sound}
 use Rattle.policy_grammar.proofs.Decoding.{list_sound}
 use Rattle.policy_answers.specs.Answers.{list_shown, signing_shown, list_size}
-use Rattle.policy_answers.specs.declared.ListAnswer.{ListAnswer}
-use Rattle.policy_answers.specs.declared.ListAnswer.TheVariants.{Unsigned, Signed, Absent}
-use Rattle.policy_reader.specs.Inner.{extent_of}
+use Rattle.policy_answers.specs.Types.{ListAnswer, Signed}
+use Rattle.policy_reader.specs.Inner.{Extent, extent_of}
 use Rattle.policy_reader.specs.Offsets.{StandsAt}
-use Rattle.policy_reader.specs.declared.Extent.{Extent}
-use Rattle.policy_reader.specs.declared.Extent.TheVariants.{Size, Fault}
+use Rattle.std.specs.Prelude.{Ok, Err, Some, None}
+use Rattle.field.specs.declared.Fault.{Fault}
 use Rattle.policy_reader.proofs.ReadExtents.{size_read, fault_read}
 use Rattle.policy_reader.proofs.ElementNumbers.{stands_number}
 use Rattle.policy_reader.proofs.Standing.{list_length}
 use Rattle.policy_reader.proofs.Places.{signing_at}
+
+abbrev listed : ℕ → ℕ → ℕ → ℕ → Signed → ListAnswer
+listed start size version n g = Some (record { start = start; size = size; version = version; elements = start + 8; elements_size = n; signing = g })
+
+abbrev signing_by : ℕ → ℕ → ℕ → ℕ → Signed
+signing_by start n c k = Some (record { counter = c; key_size = k; key = start + (8 + n) + 4; signature = start + (8 + n) + 4 + k })
 
 -- by what signs it: n is its elements size, a its algorithm
 module _ (t rest : List ℕ) (start size version n a : ℕ) where
   abbrev Follows : Signing → Type 0
   Follows g = drop (8 + n) t ≡ signing_bytes g ++ rest
 
-  shown_unsigned : (g : Signing) → ValidSigning a g → (a ≡ 0x0014 → ⊥) → size ≡ list_size (signing_shown start version n g) → Unsigned start size version (start + 8) n ≡ signing_shown start version n g
+  shown_unsigned : (g : Signing) → ValidSigning a g → (a ≡ 0x0014 → ⊥) → size ≡ list_size (signing_shown start version n g) → listed start size version n None ≡ signing_shown start version n g
   shown_unsigned Grammar.unsigned h e q = rw q
   shown_unsigned (Grammar.signed g) h e q = absurd (e h.0)
 
@@ -52,9 +57,9 @@ module _ (t rest : List ℕ) (start size version n a : ℕ) where
     )
 
     shown_signed : (g : Signing) → ValidSigning a g → Follows g → a ≡ 0x0014 → size ≡ list_size (signing_shown start version n g)
-        → Signed start size version (start + 8) n c k (start + (8 + n) + 4) (start + (8 + n) + 4 + k) ≡ signing_shown start version n g
+        → listed start size version n (signing_by start n c k) ≡ signing_shown start version n g
     shown_signed Grammar.unsigned h f e q = absurd (omega (arith, h))
-    shown_signed (Grammar.signed g) h f e q = let (i, j) = numbers g h f in rw (i, j) (ap (λ (z : ℕ). Signed start z version (start + 8) n g.counter g.key_size (start + (8 + n) + 4) (start + (8 + n) + 4 + g.key_size)) q)
+    shown_signed (Grammar.signed g) h f e q = let (i, j) = numbers g h f in rw (i, j) (ap (λ (z : ℕ). listed start z version n (signing_by start n g.counter g.key_size)) q)
 
     signed_size : (g : Signing) → ValidSigning a g → Follows g → a ≡ 0x0014 → size ≡ list_size (signing_shown start version n g) → size ≡ 8 + n + 4 + k + k
     signed_size Grammar.unsigned h f e q = absurd (omega (arith, h))
@@ -89,10 +94,10 @@ module _ (t : List ℕ) (start : ℕ) (b : (i : ℕ) → Fits w8 (get_or t i 0))
   abbrev shown : ListAnswer
   shown = list_shown start (value_of (Decode.list t))
 
-  pub answers_none : (p : ℕ) → w ≡ Fault p → Absent ≡ shown
-  answers_none p q = rw (fault_read (read Layout.list t) p (sym ew ∙ q))
+  pub answers_none : (f : Fault) → w ≡ Err f → None ≡ shown
+  answers_none f q = rw (fault_read (read Layout.list t) f (sym ew ∙ q))
 
-  module _ (size : ℕ) (qw : w ≡ Size size) where
+  module _ (size : ℕ) (qw : w ≡ Ok size) where
     there : (l : PolicyList) × (Decode.list t ≡ value l size)
     there = size_read (read Layout.list t) size (sym ew ∙ qw)
 
@@ -135,7 +140,7 @@ module _ (t : List ℕ) (start : ℕ) (b : (i : ℕ) → Fits w8 (get_or t i 0))
       size_is : size ≡ list_size (signing_shown start version n l.signing)
       size_is = rw (version_is, n_is) sized
 
-      pub answers_unsigned : (a ≡ 0x0014 → ⊥) → Unsigned start size version (start + 8) n ≡ shown
+      pub answers_unsigned : (a ≡ 0x0014 → ⊥) → listed start size version n None ≡ shown
       answers_unsigned h = shown_unsigned t front.stands.rest start size version n a l.signing signing_valid h size_is ∙ is
 
       module _ (q : a ≡ 0x0014) (k : ℕ) (ek : k ≡ number_at t (8 + n + 2) 2) where
@@ -144,7 +149,7 @@ module _ (t : List ℕ) (start : ℕ) (b : (i : ℕ) → Fits w8 (get_or t i 0))
             let i : 0 + (8 + l.elements_size) ≡ 8 + n = omega (arith, n_is) in
             rw i at (signing_at t 0 l front.stands)
 
-        pub answers_signed : (c : ℕ) → c ≡ number_at t (8 + n) 2 → Signed start size version (start + 8) n c k (start + (8 + n) + 4) (start + (8 + n) + 4 + k) ≡ shown
+        pub answers_signed : (c : ℕ) → c ≡ number_at t (8 + n) 2 → listed start size version n (signing_by start n c k) ≡ shown
         answers_signed c ec = shown_signed t front.stands.rest start size version n a c k ec ek l.signing signing_valid follows q size_is ∙ is
 
         signed_within : 8 + n + 4 + k + k ≤ length t

@@ -1,10 +1,10 @@
 -- The list and the element at an offset: the one that stands there by the grammar, and no other.
-use Prim.Native.Nat.{ℕ, ◌-◌, ◌<◌}
+use Prim.Native.Nat.{ℕ, ◌<◌}
 use native.Mathlib.Omega.{arith}
 use mathlib.Core.Path.{◌≡◌, refl, ap, sym, ◌∙◌}
 use mathlib.Core.List.{List}
 use mathlib.Core.Option.{Option, some, none}
-use lib.ListN.{length, get_or, take, drop, drop_of_length-le}
+use lib.ListN.{length, get_or, drop, drop_of_length-le}
 use mir.Val.{Fits}
 use mir.Syntax.{w8}
 use Rattle.field.proofs.Laws.{bytes_drop}
@@ -14,11 +14,8 @@ use Rattle.policy_grammar.specs.Decode as Decode
 use Rattle.policy_answers.specs.Answers.{list_shown, element_shown}
 use Rattle.policy_answers.specs.Seen.{seen_list, seen_element}
 use Rattle.policy_reader.specs.Offsets.{StandsAt, OnlyAt, ListAtExactly, ElementAtExactly}
-use Rattle.policy_answers.specs.declared.ListAnswer.{ListAnswer}
-use Rattle.policy_answers.specs.declared.ListAnswer.TheVariants as lists
-use Rattle.policy_answers.specs.declared.ElementAnswer.{ElementAnswer}
-use Rattle.policy_answers.specs.declared.ElementAnswer.TheVariants as elements
-use Rattle.field.proofs.Laws.{from_offset}
+use Rattle.std.specs.Prelude.{None}
+use Rattle.policy_answers.specs.Types.{ListAnswer, ElementAnswer}
 use Rattle.policy_reader.proofs.Standing.{Kind, list, element}
 use Rattle.policy_reader.proofs.Seen.{list_seen, element_seen}
 
@@ -53,14 +50,17 @@ module _ (s : List ℕ) (at : ℕ) (b : (i : ℕ) → Fits w8 (get_or s i 0)) wh
   none_past : (κ : Kind) → length s < at → value_of (κ.parser (drop at s)) ≡ none
   none_past κ h = rw (drop_of_length-le s {i = at} (omega arith)) κ.ends
 
-  pub list_past : length s < at → (lists.Absent ≡ list_shown at (value_of (Decode.list (drop at s)))) × ListAtExactly s at lists.Absent
-  list_past h = let e : lists.Absent ≡ list_shown at (value_of (Decode.list (drop at s))) = ap (list_shown at) (sym (none_past list h)) in (e, list_exactly lists.Absent e)
+  -- an answer that none is there
+  pub list_past : length s < at → (r : ListAnswer) → r ≡ None → (r ≡ list_shown at (value_of (Decode.list (drop at s)))) × ListAtExactly s at r
+  list_past h r q = let e = q ∙ ap (list_shown at) (sym (none_past list h)) in (e, list_exactly r e)
 
-  pub list_front : (r : ListAnswer) → r ≡ list_shown at (value_of (Decode.list (take (length s - at) (drop at s)))) → (r ≡ list_shown at (value_of (Decode.list (drop at s)))) × ListAtExactly s at r
-  list_front r q = let e = rw from_offset at q in (e, list_exactly r e)
+  pub element_past : length s < at → (r : ElementAnswer) → r ≡ None → (r ≡ element_shown at (value_of (Decode.element (drop at s)))) × ElementAtExactly s at r
+  element_past h r q = let e = q ∙ ap (element_shown at) (sym (none_past element h)) in (e, element_exactly r e)
 
-  pub element_past : length s < at → (elements.Refused ≡ element_shown at (value_of (Decode.element (drop at s)))) × ElementAtExactly s at elements.Refused
-  element_past h = let e : elements.Refused ≡ element_shown at (value_of (Decode.element (drop at s))) = ap (element_shown at) (sym (none_past element h)) in (e, element_exactly elements.Refused e)
+  -- an answer for the front of what is left
+  module _ (t : List ℕ) (i : t ≡ drop at s) where
+    pub list_front : (r : ListAnswer) → r ≡ list_shown at (value_of (Decode.list t)) → (r ≡ list_shown at (value_of (Decode.list (drop at s)))) × ListAtExactly s at r
+    list_front r q = let e = rw i at q in (e, list_exactly r e)
 
-  pub element_front : (r : ElementAnswer) → r ≡ element_shown at (value_of (Decode.element (take (length s - at) (drop at s)))) → (r ≡ element_shown at (value_of (Decode.element (drop at s)))) × ElementAtExactly s at r
-  element_front r q = let e = rw from_offset at q in (e, element_exactly r e)
+    pub element_front : (r : ElementAnswer) → r ≡ element_shown at (value_of (Decode.element t)) → (r ≡ element_shown at (value_of (Decode.element (drop at s)))) × ElementAtExactly s at r
+    element_front r q = let e = rw i at q in (e, element_exactly r e)

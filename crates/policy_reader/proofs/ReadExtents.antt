@@ -9,8 +9,6 @@ use mathlib.Core.List.{List, ◌∷◌}
 use lib.ListN.{length, take, drop, length-drop, length-take}
 use lib.Dec.{T, leb, lit≤}
 use Rattle.field.specs.Field.{field_at, number_at}
-use Rattle.field.specs.declared.Field.{Field}
-use Rattle.field.specs.declared.Field.TheVariants.{Number, Outside}
 use Rattle.field.proofs.Laws.{field_fits, field_outside, number_at_fits, from_offset}
 use Rattle.policy_grammar.specs.Format.{Format, done, ◌>>=◌, number}
 use Rattle.policy_grammar.specs.Parser.{Read, value, fault, after, continue, exactly, read, filling}
@@ -18,22 +16,24 @@ use Rattle.policy_grammar.proofs.Formats.{row, read_then}
 use Rattle.policy_grammar.proofs.Faults.{reach, reach_exactly, within}
 use Rattle.policy_grammar.proofs.Heads.{Upto, number_short, over, last_read}
 use Rattle.policy_grammar.proofs.Heads as Heads
-use Rattle.policy_reader.specs.Inner.{extent_of, further, end}
-use Rattle.policy_reader.specs.declared.Extent.{Extent}
-use Rattle.policy_reader.specs.declared.Extent.TheVariants.{Size, Fault}
+use Rattle.policy_reader.specs.Inner.{Extent, fault_at, extent_of, further, end}
+use Rattle.std.specs.Prelude.{Option, Some, Result, Ok, Err, IsErrAnd}
+use Rattle.std.specs.Result.{result_ok}
+use Rattle.std.proofs.lemmas.Result.{err_from_is_err_and}
+use Rattle.field.specs.declared.Fault.{Fault}
 
 -- A FIELD
 
-module _ (s : List ℕ) (at k : ℕ) (t : T (leb 1 k)) (u : T (leb k 8)) (r : Field) (e : r ≡ field_at s at k) (x : ℕ) where
-  outside : r ≡ Outside x → (x ≡ at) × (length s < at + k)
-  outside q =
+module _ (s : List ℕ) (at k : ℕ) (t : T (leb 1 k)) (u : T (leb k 8)) (r : Result ℕ Fault) (e : r ≡ field_at s at k) where
+  outside : (x : Fault) → r ≡ Err x → (x.at ≡ at) × (length s < at + k)
+  outside x q =
       elim (dec_le (at + k) (length s)) [
         | yes p ↦ (let f = field_fits s at k (lit≤ t) (lit≤ u) p in let z : ◌≡◌ {A = ℕ} 0 1 = cc in absurd (omega arith))
-        | no n ↦ (let f = field_outside s at k (λ _ _ h. n h) in (cc, omega arith))
+        | no n ↦ (let f = field_outside s at k (λ _ _ h. n h) in let i : x ≡ fault_at at = cc in (ap (λ (f : Fault). f.at) i, omega arith))
       ]
 
-  pub fitting : r ≡ Number x → (x ≡ number_at s at k) × (at + k ≤ length s)
-  fitting q =
+  pub fitting : (x : ℕ) → r ≡ Ok x → (x ≡ number_at s at k) × (at + k ≤ length s)
+  fitting x q =
       elim (dec_le (at + k) (length s)) [
         | yes p ↦ (let f = field_fits s at k (lit≤ t) (lit≤ u) p in let i = number_at_fits s at k (lit≤ t) (lit≤ u) p in (cc, p))
         | no n ↦ (let f = field_outside s at k (λ _ _ h. n h) in let z : ◌≡◌ {A = ℕ} 0 1 = cc in absurd (omega arith))
@@ -41,7 +41,7 @@ module _ (s : List ℕ) (at k : ℕ) (t : T (leb 1 k)) (u : T (leb k 8)) (r : Fi
 
 -- a number of a format that does not fit is the fault
 pub number_outside : {A : Type 0} (F : Format A) (s : List ℕ) (at k : ℕ) (rule : ℕ → ℕ → Bool) (f : ℕ → Format A) → Upto F s at (number k rule >>= f) → T (leb 1 k) → T (leb k 8)
-    → at ≤ length s → (r : Field) → r ≡ field_at s at k → (x : ℕ) → r ≡ Outside x → read F s ≡ fault x
+    → at ≤ length s → (r : Result ℕ Fault) → r ≡ field_at s at k → (x : Fault) → r ≡ Err x → read F s ≡ fault x.at
 number_outside F s at k rule f h t u l r e x q =
     let (i, m) = outside s at k t u r e x q in
     number_short F s at k rule f h l m ∙ ap fault (sym i)
@@ -49,13 +49,13 @@ number_outside F s at k rule f h t u l r e x q =
 -- WHAT IS READ, BY ITS EXTENT
 
 module _ {A : Type 0} where
-  pub size_read : (g : Read A) (n : ℕ) → extent_of g ≡ Size n → (a : A) × (g ≡ value a n)
+  pub size_read : (g : Read A) (n : ℕ) → extent_of g ≡ Ok n → (a : A) × (g ≡ value a n)
   size_read (value a k) n e = let z : k ≡ n = cc in (a, ap (value a) z)
   size_read (fault p) n e = let z : ◌≡◌ {A = ℕ} 0 1 = cc in absurd (omega arith)
 
-  pub fault_read : (g : Read A) (p : ℕ) → extent_of g ≡ Fault p → g ≡ fault p
-  fault_read (value a k) p e = let z : ◌≡◌ {A = ℕ} 0 1 = cc in absurd (omega arith)
-  fault_read (fault q) p e = let z : q ≡ p = cc in ap fault z
+  pub fault_read : (g : Read A) (f : Fault) → extent_of g ≡ Err f → g ≡ fault f.at
+  fault_read (value a k) f e = let z : ◌≡◌ {A = ℕ} 0 1 = cc in absurd (omega arith)
+  fault_read (fault q) f e = let z : fault_at q ≡ f = cc in ap (λ (x : Fault). fault x.at) z
 
   end_is : (g : Read A) → end (extent_of g) ≡ reach g
   end_is (value a n) = refl
@@ -81,40 +81,40 @@ module _ {A : Type 0} where
   pub read_fits : (F : Format A) (s : List ℕ) (at : ℕ) (x : Extent) → x ≡ extent_of (read F (take (length s - at) (drop at s))) → at ≤ length s → length s < 2 ^ 64 → at + end x < 2 ^ 64
   read_fits F s at x e l h = omega (arith, end_within F (take (length s - at) (drop at s)) x e, length-take (length s - at) (drop at s))
 
-  pub faulty_fits : (F : Format A) (s : List ℕ) (at n : ℕ) (x : Extent) → x ≡ extent_of (filling F (take (at + n - at) (drop at s))) → at + n ≤ length s → length s < 2 ^ 64
-      → (p : ℕ) → x ≡ Fault p → at + p < 2 ^ 64
-  faulty_fits F s at n x e l h p q = omega (arith, ap end q, end_part F s at (at + n - at) x e)
-
   -- what is read at an offset is read at the front of what is left there
   pub read_there : (F : Format A) (s : List ℕ) (at : ℕ) (x : Extent) → x ≡ extent_of (read F (take (length s - at) (drop at s))) → x ≡ extent_of (read F (drop at s))
   read_there F s at x e = e ∙ ap (λ (t : List ℕ). extent_of (read F t)) (from_offset s at)
 
   -- a fault is one of what fills a string
-  pub faulty : (F : Format A) (s : List ℕ) (p : ℕ) → read F s ≡ fault p → Fault p ≡ extent_of (filling F s)
+  pub faulty : (F : Format A) (s : List ℕ) (p : ℕ) → read F s ≡ fault p → Err (fault_at p) ≡ extent_of (filling F s)
   unfolding exactly
   faulty F s p e = rw e
 
 pub further_none : (x : Extent) → further 0 x ≡ x
-further_none (Size n) = ap Size (omega arith)
-further_none (Fault p) = ap Fault (omega arith)
+further_none (Ok n) = ap Ok (omega arith)
+further_none (Err f) = ap (λ (n : ℕ). Err (fault_at n)) (omega arith)
 
 pub further_further : (m n : ℕ) (x : Extent) → further m (further n x) ≡ further (m + n) x
-further_further m n (Size k) = ap Size (omega arith)
-further_further m n (Fault p) = ap Fault (omega arith)
+further_further m n (Ok k) = ap Ok (omega arith)
+further_further m n (Err f) = ap (λ (n : ℕ). Err (fault_at n)) (omega arith)
 
 -- by its cases
-module _ (n : ℕ) (x : Extent) (k : ℕ) where
-  pub size_fits : n + end x < 2 ^ 64 → x ≡ Size k → n + k < 2 ^ 64
-  size_fits h e = omega (arith, ap end e)
+pub further_size : (n : ℕ) (x : Extent) (z : ℕ) → further n x ≡ Ok z → (k : ℕ) × (x ≡ Ok k) × (n + k ≡ z)
+further_size n (Ok k) z e = (k, refl, cc)
+further_size n (Err f) z e = let o : ◌≡◌ {A = ℕ} 0 1 = cc in absurd (omega arith)
 
-  pub fault_fits : n + end x < 2 ^ 64 → x ≡ Fault k → n + k < 2 ^ 64
-  fault_fits h e = omega (arith, ap end e)
+pub further_fault : (n : ℕ) (x : Extent) (f : Fault) → further n x ≡ Err f → (p : ℕ) × (x ≡ Err (fault_at p)) × (fault_at (n + p) ≡ f)
+further_fault n (Ok k) f e = let o : ◌≡◌ {A = ℕ} 0 1 = cc in absurd (omega arith)
+further_fault n (Err g) f e = (g.at, refl, cc)
 
-  pub size_on : x ≡ Size k → Size (n + k) ≡ further n x
-  size_on e = rw e
+-- what a `?` returns is the fault that it is handed
+pub handed_on : {r : Extent} {f : Fault} {x : Extent} → IsErrAnd r (λ y. y ≡ f) → Err f ≡ x → r ≡ x
+handed_on {r} h e = let (y, p, q) = err_from_is_err_and r h in p ∙ ap Err q ∙ e
 
-  pub fault_on : x ≡ Fault k → Fault (n + k) ≡ further n x
-  fault_on e = rw e
+-- what `ok` gives
+pub was_ok : (x : Extent) {o : Option ℕ} {n : ℕ} → o ≡ result_ok x → o ≡ Some n → x ≡ Ok n
+was_ok (Ok k) e q = ap Ok cc
+was_ok (Err f) e q = cc
 
 -- WHAT ENDS A FORMAT
 
@@ -138,6 +138,6 @@ module _ {A : Type 0} (m : Format A) (others : Format (List A)) (s : List ℕ) w
   unfolding continue
   row_on a n e l = last_filling (row m others) s n others (λ k. a ∷ k) (read_then (λ a. others >>= λ k. done (a ∷ k)) m s ∙ rw e) l
 
-  pub row_stops : (p : ℕ) → read m s ≡ fault p → extent_of (filling (row m others) s) ≡ Fault p
+  pub row_stops : (p : ℕ) → read m s ≡ fault p → extent_of (filling (row m others) s) ≡ Err (fault_at p)
   unfolding continue
   row_stops p e = sym (faulty (row m others) s p (read_then (λ a. others >>= λ k. done (a ∷ k)) m s ∙ rw e))

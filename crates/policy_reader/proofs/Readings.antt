@@ -19,7 +19,7 @@ use Rattle.policy_grammar.specs.Layout.{whole}
 use Rattle.policy_grammar.specs.Fault.{FirstFaultIn}
 use Rattle.policy_grammar.proofs.Faults.{reach, within, one_place, fault_exactly}
 use Rattle.policy_grammar.proofs.Decoding.{unique}
-use Rattle.policy_answers.specs.declared.FileAnswer.{FileAnswer}
+use Rattle.policy_answers.specs.Types.{FileAnswer}
 use Rattle.policy_answers.specs.Answers.{file_answer}
 use Rattle.policy_reader.specs.Readings.{MadeFrom, IsReadingOf, IsPlaceOf, ReadExactly}
 use Rattle.policy_reader.proofs.Places.{sized_inside, sized_outside, accepted_sound, accepted_complete}

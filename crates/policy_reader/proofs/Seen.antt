@@ -13,12 +13,12 @@ use Rattle.field.specs.Number.{bytes}
 use Rattle.field.proofs.Laws.{length_bytes}
 use Rattle.policy_grammar.specs.Grammar.{All, Digests, ValidDigests, launch_type, custom_type, stm_type, Body, body_bytes, ValidBody, Element, element_bytes, ValidElement, digest_length, Signature, Signing, signature_bytes, ValidSigning, PolicyList, list_bytes, ValidList}
 use Rattle.policy_grammar.specs.Grammar as Grammar
-use Rattle.policy_answers.specs.Parts.{part_at, body_of}
+use Rattle.policy_answers.specs.Parts.{part_at}
 use Rattle.policy_answers.specs.Answers.{signing_shown, list_shown, list_size, body_shown, element_shown, key_of}
 use Rattle.policy_answers.specs.Answers as Answers
-use Rattle.policy_answers.specs.Seen.{seen_list, list_part, seen_part, signed_by, signature_in, pieces, seen_digests, seen_element, seen_body}
+use Rattle.policy_answers.specs.Seen.{seen_list, list_part, seen_part, signed_by, signature_in, pieces, seen_digests, seen_type, as_body, seen_element, seen_body}
 use Rattle.policy_reader.specs.Offsets.{StandsAt}
-use Rattle.policy_answers.specs.declared.ElementAnswer.TheVariants as elements
+use Rattle.policy_answers.specs.declared.ElementBody.TheVariants.{Custom, Unjudged}
 use Rattle.policy_grammar.proofs.Decoding.{itself, Long, element_length}
 use Rattle.policy_reader.proofs.Standing.{list_length}
 use Rattle.policy_reader.proofs.Places.{elements_at, elements_fit, signing_at}
@@ -124,6 +124,19 @@ digests_are d v b q =
     let w : pieces d.count k b ≡ d.digests = ap (pieces d.count k) q ∙ pieces_are k d.digests d.count v.counted v.digest_lengths in
     λ i. record { hash_alg = d.hash_alg; count = d.count; digests = w i }
 
+-- the body that is seen of its bytes, by its numbers
+body_is_seen : (type : ℕ) (b : Body) → ValidBody type b → (x : List ℕ) → x ≡ body_bytes b → (seen_type (body_shown type b) ≡ type) × (as_body (body_shown type b) x ≡ b)
+unfolding bytes
+body_is_seen type (Grammar.launch b) v x e =
+    let d = digests_are b.digests v.1.digests_valid (drop 6 x) (ap (drop 6) e) in
+    (sym v.0, ap (λ (x : Digests). Grammar.launch (record { sinit_min_version = b.sinit_min_version; reserved = b.reserved; digests = x })) d)
+body_is_seen type (Grammar.stm d) v x e = (sym v.0, ap Grammar.stm (digests_are d v.1 (drop 4 x) (ap (drop 4) e)))
+body_is_seen type (Grammar.other b) v x e = on (eqb type custom_type) refl
+  where
+    on : (t : Bool) → eqb type custom_type ≡ t → (seen_type (cond t Custom (Unjudged type)) ≡ type) × (as_body (cond t Custom (Unjudged type)) x ≡ Grammar.other b)
+    on true q = (sym (eqb-true type custom_type q), ap Grammar.other e)
+    on false q = (refl, ap Grammar.other e)
+
 module _ (s : List ℕ) (at : ℕ) (e : Element) (here : StandsAt element_bytes ValidElement s at e) where
   element_is : part_at s at e.size ≡ element_bytes e
   element_is =
@@ -134,48 +147,10 @@ module _ (s : List ℕ) (at : ℕ) (e : Element) (here : StandsAt element_bytes 
   unfolding bytes
   body_is = rw element_is
 
-  -- the body, where what it is is known
-  valid_as : (b : Body) → e.body ≡ b → ValidBody e.type b
-  valid_as b i = rw i at here.obeys.body_valid
-
-  bytes_as : (b : Body) → e.body ≡ b → drop 12 (part_at s at e.size) ≡ body_bytes b
-  bytes_as b i = body_is ∙ ap body_bytes i
-
-  seen_as : (b : Body) → e.body ≡ b → element_shown at (some e) ≡ body_shown at e.size e.type e.control b
-  seen_as b i = ap (body_shown at e.size e.type e.control) i
-
-  as_element : (type : ℕ) (b : Body) → type ≡ e.type → b ≡ e.body → some (record { size = e.size; type = type; control = e.control; body = b }) ≡ some e
-  as_element type b t i k = some (record { size = e.size; type = t k; control = e.control; body = i k })
-
   pub element_seen : seen_element s (element_shown at (some e)) ≡ some e
-  unfolding bytes
-  element_seen = go e.body refl
-    where
-      on : (x : Bool) → eqb e.type custom_type ≡ x → (b : List ℕ) → e.body ≡ Grammar.other b
-          → seen_element s (cond x (elements.Custom at e.size e.control) (elements.Unjudged at e.size e.type e.control)) ≡ some e
-      on true q b i = as_element custom_type _ (sym (eqb-true e.type custom_type q)) (ap Grammar.other (bytes_as _ i) ∙ sym i)
-      on false q b i = as_element e.type _ refl (ap Grammar.other (bytes_as _ i) ∙ sym i)
-
-      go : (b : Body) → e.body ≡ b → seen_element s (element_shown at (some e)) ≡ some e
-      go (Grammar.launch b) i =
-          let v = valid_as (Grammar.launch b) i in
-          let d = digests_are b.digests v.1.digests_valid (drop 6 (drop 12 (part_at s at e.size))) (ap (drop 6) (bytes_as (Grammar.launch b) i)) in
-          ap (seen_element s) (seen_as (Grammar.launch b) i)
-          ∙ as_element launch_type _ (sym v.0) (ap (λ (x : Digests). Grammar.launch (record { sinit_min_version = b.sinit_min_version; reserved = b.reserved; digests = x })) d ∙ sym i)
-      go (Grammar.stm d) i =
-          let v = valid_as (Grammar.stm d) i in
-          ap (seen_element s) (seen_as (Grammar.stm d) i)
-          ∙ as_element stm_type _ (sym v.0) (ap Grammar.stm (digests_are d v.1 (drop 4 (drop 12 (part_at s at e.size))) (ap (drop 4) (bytes_as (Grammar.stm d) i))) ∙ sym i)
-      go (Grammar.other b) i = ap (seen_element s) (seen_as (Grammar.other b) i) ∙ on (eqb e.type custom_type) refl b i
+  element_seen =
+      let (t, b) = body_is_seen e.type e.body here.obeys.body_valid _ body_is in
+      λ i. some (record { size = e.size; type = t i; control = e.control; body = b i })
 
   pub body_seen : seen_body s (element_shown at (some e)) ≡ some (body_bytes e.body)
-  body_seen = rw element_seen (ap some (go e.body))
-    where
-      on : (x : Bool) → body_of s (cond x (elements.Custom at e.size e.control) (elements.Unjudged at e.size e.type e.control)) ≡ body_bytes e.body
-      on true = body_is
-      on false = body_is
-
-      go : (b : Body) → body_of s (body_shown at e.size e.type e.control b) ≡ body_bytes e.body
-      go (Grammar.launch b) = body_is
-      go (Grammar.stm d) = body_is
-      go (Grammar.other b) = on (eqb e.type custom_type)
+  body_seen = ap some body_is

@@ -4,12 +4,10 @@
 use Prim.Native.Nat.{ℕ, ◌+◌, ◌≤◌, ◌<◌}
 use native.Mathlib.Omega.{arith}
 use mathlib.Core.Path.{◌≡◌, refl, ap, sym, ◌∙◌}
-use mathlib.Core.Bool.{Bool, true, false, cond}
 use mathlib.Core.List.{List, [], ◌∷◌, ◌++◌, flat_map}
 use mathlib.Core.Option.{Option, some, none}
 use lib.ListN.{length, get_or, drop, length-drop, length-append}
 use lib.Seq.{drop-drop, drop-append_seam}
-use lib.Dec.{eqb}
 use mir.Val.{Fits}
 use mir.Syntax.{w8}
 use Rattle.field.specs.Number.{Bytes}
@@ -20,11 +18,9 @@ use Rattle.policy_grammar.specs.Format.{◌>>=◌, number}
 use Rattle.policy_grammar.specs.Parser.{Read, value, fault, value_of, Parser, read}
 use Rattle.policy_grammar.specs.Layout as Layout
 use Rattle.policy_grammar.specs.Decode as Decode
-use Rattle.policy_answers.specs.Answers.{body_shown, element_shown, element_size, signing_shown, list_shown, list_size}
-use Rattle.policy_answers.specs.declared.ElementAnswer.{ElementAnswer}
-use Rattle.policy_answers.specs.declared.ElementAnswer.TheVariants.{Custom, Unjudged, Refused}
-use Rattle.policy_answers.specs.declared.ListAnswer.{ListAnswer}
-use Rattle.policy_answers.specs.declared.ListAnswer.TheVariants.{Absent}
+use Rattle.policy_answers.specs.Answers.{element_shown, element_size, signing_shown, list_shown, list_size}
+use Rattle.std.specs.Prelude.{None}
+use Rattle.policy_answers.specs.Types.{ListAnswer, ElementAnswer}
 use Rattle.policy_grammar.proofs.Soundness.{reads_sound, reads_complete}
 use Rattle.policy_grammar.proofs.Decoding.{element_sound, element_complete, element_length, list_sound, list_complete}
 
@@ -94,18 +90,6 @@ module _ (κ : Kind) (s : List ℕ) (at : ℕ) (b : (i : ℕ) → Fits w8 (get_o
       go (value a n) q = absurd (omega (arith, (there a n q).2))
 
 -- elements
-pub size_shown : (start : ℕ) (e : Element) → element_size (element_shown start (some e)) ≡ e.size
-size_shown start e = go e.body
-  where
-    on : (x : Bool) → element_size (cond x (Custom start e.size e.control) (Unjudged start e.size e.type e.control)) ≡ e.size
-    on true = refl
-    on false = refl
-
-    go : (b : Body) → element_size (body_shown start e.size e.type e.control b) ≡ e.size
-    go (Grammar.launch b) = refl
-    go (Grammar.stm d) = refl
-    go (Grammar.other b) = on (eqb e.type custom_type)
-
 pub no_element : value_of (Decode.element []) ≡ none
 unfolding Layout.element number ◌>>=◌ read
 no_element = refl
@@ -122,11 +106,11 @@ element =
       ends = no_element;
       Answer = ElementAnswer;
       shown = element_shown;
-      missing = Refused;
+      missing = None;
       none_shown = λ at. refl;
       size = element_size;
       no_size = refl;
-      size_is = λ at e v. (size_shown at e ∙ v.sized, omega (arith, element_length e));
+      size_is = λ at e v. (v.sized, omega (arith, element_length e));
     }
 
 -- lists
@@ -155,7 +139,7 @@ list =
       ends = no_list_lem;
       Answer = ListAnswer;
       shown = list_shown;
-      missing = Absent;
+      missing = None;
       none_shown = λ at. refl;
       size = list_size;
       no_size = refl;

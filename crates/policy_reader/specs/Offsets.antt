@@ -2,8 +2,7 @@
 use Rattle.std.specs.Prelude.{ℕ, ◌≡◌, List, ◌++◌, drop}
 use Rattle.std.proofs.Math.Option.{Option, some, none, map}
 use Rattle.policy_grammar.specs.Grammar.{Element, element_bytes, ValidElement, PolicyList, list_bytes, ValidList}
-use Rattle.policy_answers.specs.declared.ListAnswer.{ListAnswer}
-use Rattle.policy_answers.specs.declared.ElementAnswer.{ElementAnswer}
+use Rattle.policy_answers.specs.Types.{ListAnswer, ElementAnswer}
 use Rattle.policy_answers.specs.Answers.{list_shown, element_shown}
 use Rattle.policy_answers.specs.Seen.{seen_list, list_part, seen_element}
 

@@ -4,7 +4,7 @@ use Rattle.std.proofs.Math.Option.{Option, some, none}
 use Rattle.policy_grammar.specs.Grammar.{Reading, Makes}
 use Rattle.policy_grammar.specs.Sizes.{least_file, largest_file}
 use Rattle.policy_grammar.specs.Fault.{FirstFaultIn}
-use Rattle.policy_answers.specs.declared.FileAnswer.{FileAnswer}
+use Rattle.policy_answers.specs.Types.{FileAnswer}
 use Rattle.policy_answers.specs.Answers.{file_shown}
 
 -- the grammar makes the string from the reading that is there, or from none

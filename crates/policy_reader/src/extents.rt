@@ -2,15 +2,12 @@
 ghost use Rattle.std.specs.Prelude.{◌≡◌, ◌+◌, ◌<◌, ◌^◌};
 ghost use Rattle.policy_reader.specs.Inner as spec;
 
-use crate::Extent;
+use field::Fault;
 
 // What is read n bytes on.
-pub(crate) fn further(n: usize, x: Extent) -> Extent
+pub(crate) fn further(n: usize, x: Result<usize, Fault>) -> Result<usize, Fault>
     requires { n + spec.end x < 2 ^ 64 }
     ensures { result ≡ spec.further n x }
 {
-    match x {
-        Extent::Size(k) => Extent::Size(n + k),
-        Extent::Fault(p) => Extent::Fault(n + p),
-    }
+    x.map(|k| n + k).map_err(|f| Fault { at: n + f.at })
 }

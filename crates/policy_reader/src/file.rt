@@ -1,48 +1,49 @@
 // The number of a string, and the place of its first fault.
-ghost use Rattle.std.specs.Prelude.{◌≡◌};
-ghost use Rattle.policy_grammar.specs.Decode.{accepted};
+ghost use Rattle.std.specs.Prelude.{◌≡◌, ◌≤◌, length};
+ghost use Rattle.policy_grammar.specs.Parser.{filling};
+ghost use Rattle.policy_grammar.specs.Layout as Layout;
 ghost use Rattle.policy_answers.specs.Answers.{file_answer};
+ghost use Rattle.policy_reader.specs.Inner.{counted_of};
 ghost use Rattle.policy_reader.specs.Readings.{ReadExactly};
 
+use crate::extents::further;
 use crate::lists::lists_extent;
 use crate::numbers::number;
-use crate::{Extent, FIRST_LIST, LARGEST_FILE, LEAST_FILE, LIST_COUNT, MARK, MOST_LISTS, ZEROS};
-use policy_answers::FileAnswer;
+use crate::{FIRST_LIST, LARGEST_FILE, LEAST_FILE, LIST_COUNT, MARK, MOST_LISTS, ZEROS};
+use field::Fault;
+use policy_answers::FileFault;
 
-// The answer for s, field by field in file order. A string of the least size has all the fields before its lists.
-fn tested(s: &[u8]) -> FileAnswer
-    ensures { result ≡ file_answer s.now }
+// The number of the lists of s, field by field in file order. A string of the least size has all the fields before its lists.
+fn counted(s: &[u8]) -> Result<usize, Fault>
+    requires { 36 ≤ length s.now }
+    ensures { result ≡ counted_of (filling Layout.file s.now) }
 {
-    if s.len() < LEAST_FILE {
-        return FileAnswer::WrongSize;
-    }
-    if LARGEST_FILE < s.len() {
-        return FileAnswer::WrongSize;
-    }
     if !field::marked(s, 0, &MARK) {
-        return FileAnswer::NotOfGrammar { place: 0 };
+        return Err(Fault { at: 0 });
     }
     if !field::marked(s, ZEROS, b"\0\0\0") {
-        return FileAnswer::NotOfGrammar { place: ZEROS };
+        return Err(Fault { at: ZEROS });
     }
     let lists = number(s, LIST_COUNT, 1);
     if lists < 1 {
-        return FileAnswer::NotOfGrammar { place: LIST_COUNT };
+        return Err(Fault { at: LIST_COUNT });
     }
     if MOST_LISTS < lists {
-        return FileAnswer::NotOfGrammar { place: LIST_COUNT };
+        return Err(Fault { at: LIST_COUNT });
     }
-    match lists_extent(&s[FIRST_LIST..], lists) {
-        Extent::Size(_) => FileAnswer::Accepted { lists },
-        Extent::Fault(p) => FileAnswer::NotOfGrammar {
-            place: FIRST_LIST + p,
-        },
-    }
+    further(FIRST_LIST, lists_extent(&s[FIRST_LIST..], lists))?;
+    Ok(lists)
 }
 
-// What the string s is: of a wrong size, not of the grammar, with the offset of the first field at fault, or accepted with the number of its lists.
-pub fn read(s: &[u8]) -> FileAnswer
+// What the string s is: accepted, with the number of its lists, or of a wrong size, or not of the grammar, with the offset of the first field at fault.
+pub fn read(s: &[u8]) -> Result<usize, FileFault>
     ensures { (result ≡ file_answer s.now) × ReadExactly s.now result }
 {
-    tested(s)
+    if s.len() < LEAST_FILE {
+        return Err(FileFault::WrongSize);
+    }
+    if LARGEST_FILE < s.len() {
+        return Err(FileFault::WrongSize);
+    }
+    counted(s).map_err(|f| FileFault::NotOfGrammar { place: f.at })
 }

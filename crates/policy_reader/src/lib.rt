@@ -3,6 +3,8 @@
 // No public function asks anything of its caller: any slice of any length, and any offset. To walk an accepted string once, take `list_at` from
 // FIRST_LIST on, each list after the one before it, and `element_at` in the string up to the end of a list's elements; the laws of such a loop are in
 // proofs/Walk.antt.
+//
+// What is read at the front of a string is answered as how many bytes it takes, or the offset of its first fault: a `Result<usize, Fault>`.
 #![tactic(auto)]
 
 mod at_offset;
@@ -25,8 +27,10 @@ pub const ZEROS: usize = 32;
 
 pub const LIST_COUNT: usize = 35;
 
-// The signature algorithm of a list that is not signed.
+// The signature algorithm of a list that is not signed, and of one that is.
 pub const UNSIGNED: usize = 0x0010;
+
+pub(crate) const SIGNED: usize = 0x0014;
 
 // The offset of the first list of every file.
 pub const FIRST_LIST: usize = 36;
@@ -38,10 +42,3 @@ pub const LARGEST_FILE: usize = 65536;
 
 // The most lists of a file.
 pub const MOST_LISTS: usize = 8;
-
-// What is read at the front of a string: how many bytes it takes, or the offset of its first fault.
-#[derive(Clone, Copy)]
-pub(crate) enum Extent {
-    Size(usize),
-    Fault(usize),
-}

@@ -1,5 +1,6 @@
 // Lists, field by field in file order: how many bytes one takes, whether so many lists fill a part, or where the first fault is.
-ghost use Rattle.std.specs.Prelude.{◌≡◌, ◌≤◌, length, drop};
+ghost use Rattle.std.specs.Prelude.{◌≡◌, ◌≤◌, ◌||◌, length, drop, eqb};
+ghost use Rattle.policy_grammar.specs.Grammar.{unsigned_algorithm};
 ghost use Rattle.policy_grammar.specs.Format.{times};
 ghost use Rattle.policy_grammar.specs.Parser.{read, filling};
 ghost use Rattle.policy_grammar.specs.Layout as Layout;
@@ -8,74 +9,71 @@ ghost use Rattle.policy_reader.specs.Inner.{extent_of};
 
 use crate::elements::elements_extent;
 use crate::extents::further;
-use crate::numbers::one_of;
-use crate::{Extent, UNSIGNED};
-use field::Field;
+use crate::{SIGNED, UNSIGNED};
+use field::Fault;
+
+// Whether a key may have the size.
+fn known_key_size(size: usize) -> bool
+    ensures { result ≡ (eqb size 256 || eqb size 384) }
+{
+    matches!(size, 256 | 384)
+}
 
 // What signs a list, at the front of t. The key size answers for the key and the signature.
-fn signed_extent(t: &[u8]) -> Extent
+fn signed_extent(t: &[u8]) -> Result<usize, Fault>
     ensures { result ≡ extent_of (read Layout.signed t.now) }
 {
-    if let Field::Outside(at) = field::read(t, 0, 2) {
-        return Extent::Fault(at);
-    }
-    let size = match field::read(t, 2, 2) {
-        Field::Number(n) => n as usize,
-        Field::Outside(at) => return Extent::Fault(at),
-    };
-    if !one_of(size, 256, 384) {
-        return Extent::Fault(2);
+    field::read(t, 0, 2)?;
+    let size = field::read(t, 2, 2)? as usize;
+    if !known_key_size(size) {
+        return Err(Fault { at: 2 });
     }
     let end = 4 + size + size;
     if t.len() < end {
-        return Extent::Fault(2);
+        return Err(Fault { at: 2 });
     }
-    Extent::Size(end)
+    Ok(end)
 }
 
 // Whether a list may have the version.
 pub fn known_version(version: usize) -> bool
     ensures { result ≡ known_version version }
 {
-    one_of(version, 0x0200, 0x0201)
+    matches!(version, 0x0200 | 0x0201)
+}
+
+// Whether a list may have the signature algorithm.
+fn known_algorithm(algorithm: usize) -> bool
+    ensures { result ≡ (eqb algorithm unsigned_algorithm || eqb algorithm 0x0014) }
+{
+    matches!(algorithm, UNSIGNED | SIGNED)
 }
 
 // The list at the front of t.
-fn first_extent(t: &[u8]) -> Extent
+fn first_extent(t: &[u8]) -> Result<usize, Fault>
     ensures { result ≡ extent_of (read Layout.list t.now) }
 {
-    let version = match field::read(t, 0, 2) {
-        Field::Number(n) => n as usize,
-        Field::Outside(at) => return Extent::Fault(at),
-    };
+    let version = field::read(t, 0, 2)? as usize;
     if !known_version(version) {
-        return Extent::Fault(0);
+        return Err(Fault { at: 0 });
     }
-    let algorithm = match field::read(t, 2, 2) {
-        Field::Number(n) => n as usize,
-        Field::Outside(at) => return Extent::Fault(at),
-    };
-    if !one_of(algorithm, UNSIGNED, 0x0014) {
-        return Extent::Fault(2);
+    let algorithm = field::read(t, 2, 2)? as usize;
+    if !known_algorithm(algorithm) {
+        return Err(Fault { at: 2 });
     }
-    let end = match field::read(t, 4, 4) {
-        Field::Number(n) => 8 + n as usize,
-        Field::Outside(at) => return Extent::Fault(at),
-    };
+    let end = 8 + field::read(t, 4, 4)? as usize;
     if t.len() < end {
-        return Extent::Fault(4);
+        return Err(Fault { at: 4 });
     }
-    if let Extent::Fault(p) = elements_extent(&t[8..end]) {
-        return Extent::Fault(8 + p);
-    }
-    if algorithm == 0x0014 {
+    further(8, elements_extent(&t[8..end]))?;
+    if algorithm == SIGNED {
         return further(end, signed_extent(&t[end..]));
     }
-    Extent::Size(end)
+    Ok(end)
 }
 
 // The list that stands at `at` in t.
-pub(crate) fn list_extent(t: &[u8], at: usize) -> Extent
+pub(crate) fn list_extent(t: &[u8], at: usize) -> Result<usize, Fault>
     requires { at ≤ length t.now }
     ensures { result ≡ extent_of (read Layout.list (drop at t.now)) }
 {
@@ -83,20 +81,15 @@ pub(crate) fn list_extent(t: &[u8], at: usize) -> Extent
 }
 
 // The n lists that fill t.
-pub(crate) fn lists_extent(t: &[u8], n: usize) -> Extent
+pub(crate) fn lists_extent(t: &[u8], n: usize) -> Result<usize, Fault>
     ensures { result ≡ extent_of (filling (times n Layout.list) t.now) }
 {
     let mut at = 0;
-    let mut k = 0;
-    while k < n {
-        match list_extent(t, at) {
-            Extent::Size(size) => at += size,
-            Extent::Fault(p) => return Extent::Fault(at + p),
-        }
-        k += 1;
+    for _ in 0..n {
+        at = further(at, list_extent(t, at))?;
     }
     if at < t.len() {
-        return Extent::Fault(at);
+        return Err(Fault { at });
     }
-    Extent::Size(at)
+    Ok(at)
 }

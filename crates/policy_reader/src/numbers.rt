@@ -1,5 +1,5 @@
 // Numbers of a string.
-ghost use Rattle.std.specs.Prelude.{◌≡◌, ◌||◌, ◌<◌, ◌^◌, eqb};
+ghost use Rattle.std.specs.Prelude.{◌≡◌, ◌<◌, ◌^◌};
 ghost use Rattle.field.specs.Field.{number_at};
 
 // The number of `width` bytes at `at`; 0 where they are not all there.
@@ -7,11 +7,4 @@ pub(crate) fn number(s: &[u8], at: usize, width: usize) -> usize
     ensures { (result ≡ number_at s.now at width) × (result < 256 ^ width) }
 {
     field::number_or_zero(s, at, width) as usize
-}
-
-// Whether n is a or b.
-pub(crate) fn one_of(n: usize, a: usize, b: usize) -> bool
-    ensures { result ≡ (eqb n a || eqb n b) }
-{
-    if n == a { true } else { n == b }
 }

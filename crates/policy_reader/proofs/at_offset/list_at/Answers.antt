@@ -1,9 +1,16 @@
 -- `list_at` meets its contract: past the string there is no list, and elsewhere it is the one at the front of what is left.
+use native.Mathlib.Omega.{arith}
+use Rattle.policy_answers.proofs.Slices.{past_end, rest_is}
 use Rattle.policy_reader.proofs.Offsets.{list_past, list_front}
 use Rattle.policy_reader.proofs.at_offset.list_at.Goals as goal
 
-pub returns-then-s-at : goal.returns-then-s-at
-returns-then-s-at c = list_past _ _ c.type_inv.s c.if-s-at.true
+pub returns-in_err-get : goal.returns-in_err-get
+returns-in_err-get c = list_past _ _ c.type_inv.s (past_end _ _ _ c.get.ensures.lookup c.in_err-get.was) _ c.from_residual.ensures
+
+pub first_list-requires : goal.first_list-requires
+first_list-requires c =
+    let r = rest_is _ _ _ c.get.ensures.lookup _ c.in_ok-get.was in
+    omega (arith, r.1)
 
 pub returns : goal.returns
-returns c = list_front _ _ c.type_inv.s _ c.first_list.ensures
+returns c = list_front _ _ c.type_inv.s _ (rest_is _ _ _ c.get.ensures.lookup _ c.in_ok-get.was).0 _ c.first_list.ensures

@@ -1,16 +1,11 @@
--- `tested` meets its contract: one law for each answer.
+-- `counted` meets its contract: one law for each answer.
 use Rattle.policy_grammar.specs.Grammar.{mark_characters}
-use Rattle.policy_reader.proofs.FileTests.{read_short, read_long, read_mark, read_zeros, read_none, read_many, read_yes, read_faulty, place_fits}
+use Rattle.policy_reader.proofs.ReadExtents.{handed_on, rest_fits}
+use Rattle.policy_reader.proofs.FileTests.{read_mark, read_zeros, read_none, read_many, read_yes, read_faulty}
 use Prim.Native.Nat.{◌<◌}
 use native.Mathlib.Omega.{arith}
 use borrow.Author.Rules.{rules}
-use Rattle.policy_reader.proofs.file.tested.Goals as goal
-
-pub returns-then-s-lt-LEAST_FILE : goal.returns-then-s-lt-LEAST_FILE
-returns-then-s-lt-LEAST_FILE c = search (rules, read_short)
-
-pub returns-then-s-gt-LARGEST_FILE : goal.returns-then-s-gt-LARGEST_FILE
-returns-then-s-gt-LARGEST_FILE c = read_long _ (omega arith)
+use Rattle.policy_reader.proofs.file.counted.Goals as goal
 
 pub returns-then-not-marked : goal.returns-then-not-marked
 unfolding mark_characters
@@ -30,13 +25,13 @@ returns-then-lists-gt-MOST_LISTS c =
     let h : 8 < c.number-lists.result = omega arith in
     search (rules, read_many)
 
-pub overflow_add-result : goal.overflow_add-result
-overflow_add-result c = record { fits = search (rules, place_fits) }
+pub further-requires : goal.further-requires
+further-requires c = search (rules, rest_fits)
 
-pub returns-in-Size : goal.returns-in-Size
+pub returns-in_err-further : goal.returns-in_err-further
 unfolding mark_characters
-returns-in-Size c = search (rules, read_yes)
+returns-in_err-further c = handed_on c.from_residual.ensures.1 (search (rules, c.in_err-further.was, read_faulty))
 
-pub returns-in-Fault : goal.returns-in-Fault
+pub returns : goal.returns
 unfolding mark_characters
-returns-in-Fault c = search (rules, read_faulty)
+returns c = search (rules, c.in_ok-further.was, read_yes)

@@ -1,6 +1,6 @@
 -- What the code keeps tells what was found: the regions that hold the range from the first page to the last are those that hold every page.
 use Prim.Native.Nat.{ℕ, ◌+◌, ◌-◌, ◌≤◌}
-use mathlib.Core.Path.{◌≡◌, refl, sym, ap, ◌∙◌}
+use mathlib.Core.Path.{◌≡◌, sym, ap, ◌∙◌}
 use mathlib.Core.Bool.{Bool, true, false, cond, ◌&&◌, true≢false}
 use native.Mathlib.Omega.{arith}
 use borrow.Author.Tests.{ne_eqb}
@@ -11,10 +11,10 @@ use Rattle.range.proofs.Ranges.{inside_bounds}
 use Rattle.rules.specs.Tests.{any, filter}
 use Rattle.rules.proofs.Tests.{agrees, and_exactly}
 use Rattle.rules.proofs.Filter.{any_left, filter_twice}
-use Rattle.pages.specs.declared.levels.Progress.{Progress}
+use Rattle.pages.specs.declared.progress.Progress.{Progress}
 use Rattle.pages.specs.Memory.{Memory, page_of, regions, protected, holding}
-use Rattle.pages.specs.Rules.{State, after_table, after_page}
-use Rattle.pages.specs.Inner.{common_of, up_to, first_address, pages_to, Above, Leads}
+use Rattle.pages.specs.Rules.{after_page}
+use Rattle.pages.specs.Inner.{common_of, up_to, first_address, state_of, pages_to, Above}
 
 -- a region is one range: it holds an earlier range and a page exactly where it holds all from the one to the other
 joined : (x : Range) (a : ℕ) (r : Range) → x.base ≤ a → end_of x ≤ a + page_size → (inside_of x r && inside_of (page_of a) r) ≡ inside_of (up_to x.base a) r
@@ -36,7 +36,7 @@ module _ (p : Progress) (a : ℕ) (h : Above p a) where
           rw e
       by false =
           filter_twice (inside_of (page_of a)) (inside_of p.pages) (inside_of (up_to p.pages.base a))
-          (λ r. joined p.pages a r (omega (arith, h.above, h.ordered.from)) (omega (arith, h.above, h.ordered.to)))
+          (λ r. joined p.pages a r (omega (arith, h.above, p.from)) (omega (arith, h.above, p.to)))
           (regions m)
 
   pub protected_is : (m : Memory) → any (inside_of (pages_to p a)) (regions m) ≡ protected (common_of m p) a
@@ -51,17 +51,10 @@ module _ (p : Progress) (a : ℕ) (h : Above p a) where
     where
       by : (none : Bool) → cond none a p.pages.base ≤ a
       by true = omega arith
-      by false = omega (arith, h.above, h.ordered.from)
+      by false = omega (arith, h.above, p.from)
 
-  pub leads_table : Leads (λ (s : State). after_table s a) p (record { last = a; tables = p.tables + 1; first = p.first; count = p.count; pages = p.pages })
-  leads_table = record {
-    ordered = record { from = omega (arith, h.above, h.ordered.from); to = omega (arith, h.above, h.ordered.to) };
-    state = λ m. refl;
-  }
-
-  pub leads_page : (l first : ℕ) → first ≡ cond (eqb p.count 0) l p.first
-      → Leads (λ (s : State). after_page s l a) p (record { last = a; tables = p.tables; first = first; count = p.count + 1; pages = pages_to p a })
-  leads_page l first e = record {
-    ordered = record { from = first_below; to = omega (arith, first_below) };
-    state = λ m. rw (e, ne_eqb (p.count + 1) 0 (λ z. omega arith), common_after m);
-  }
+  -- a page more in what is kept is one more in what was found
+  pub page_counted : (l first : ℕ) → first ≡ cond (eqb p.count 0) l p.first → (pages : Range) → pages ≡ pages_to p a → (m : Memory)
+      → record { last = a; tables = p.tables; first = first; count = p.count + 1; common = cond (eqb (p.count + 1) 0) (regions m) (filter (inside_of pages) (regions m)) }
+      ≡ after_page (state_of m p) l a
+  page_counted l first e pages f m = rw (e, f, ne_eqb (p.count + 1) 0 (λ z. omega arith), common_after m)

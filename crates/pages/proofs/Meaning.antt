@@ -1,6 +1,6 @@
 -- The walk maps pages exactly where all rules hold with them, refuses with the number of the first rule that fails, and what it maps lies where it may.
 use Prim.Native.Nat.{ℕ, ◌+◌, ◌%◌, ◌<◌}
-use mathlib.Core.Path.{◌≡◌, refl, sym}
+use mathlib.Core.Path.{◌≡◌, refl, ap}
 use mathlib.Core.Logic.{◌↔◌, ◌≢◌}
 use mathlib.Core.Bool.{Bool, true, false}
 use native.Mathlib.Omega.{arith}
@@ -12,13 +12,14 @@ use Rattle.rules.specs.Rules.{first_failing}
 use Rattle.rules.proofs.Rules.{all_exactly}
 use Rattle.rules.proofs.Tests.{some_map}
 use Rattle.rules.proofs.Filter.{some_filter}
-use Rattle.rules.proofs.Answers.{number_of_lem, value_exactly, number_exactly, number_means}
+use Rattle.rules.proofs.Refusals.{value_by, refused_by, number_by, refused_means}
+use Rattle.std.specs.Prelude.{Err}
 use Rattle.pages.specs.declared.Kind.{Kind}
 use Rattle.pages.specs.declared.Kind.TheVariants.{Pointer, Directory, Page}
-use Rattle.pages.specs.declared.WalkAnswer.TheVariants.{Mapped, Refused}
+use Rattle.pages.specs.declared.Mapped.{Mapped}
 use Rattle.pages.specs.Entry.{address_of}
 use Rattle.pages.specs.Memory.{page_of, regions, holding}
-use Rattle.pages.specs.Rules.{State, walk_rules, end_state, answer_of, walk_of, number_of}
+use Rattle.pages.specs.Rules.{State, walk_rules, end_state, mapped, answer_of, walk_of}
 use Rattle.pages.specs.Meaning.{Within, Apart, position, entry, Present, named, HoldsPages, Walks, walk_meanings, HoldingMeans, NumberIsFirst, MappedExactly, RefusedExactly, FoundByWalk}
 use Rattle.pages.proofs.Found.{in_level_lem}
 use Rattle.pages.proofs.Conditions.{page_within, walk_agree}
@@ -38,27 +39,24 @@ holding_means rs a P =
 
 -- AN ANSWER AND ITS NUMBER
 
-different : {f n k : ℕ} → Mapped f n ≡ Refused k → ⊥
-different e = let z : ◌≡◌ {A = ℕ} 0 1 = cc in omega arith
+abbrev pages_of : State → Mapped
+pages_of s = record { first = s.first; count = s.count }
 
-pub mapped_answer : (k : ℕ) (s : State) (f n : ℕ) → (answer_of k s ≡ Mapped f n) ↔ ((k ≡ 0) × ((s.first ≡ f) × (s.count ≡ n)))
+pub mapped_answer : (k : ℕ) (s : State) (f n : ℕ) → (answer_of k s ≡ mapped f n) ↔ ((k ≡ 0) × ((s.first ≡ f) × (s.count ≡ n)))
 unfolding answer_of
 mapped_answer k s f n =
-    let value = value_exactly Refused (Mapped s.first s.count) (Mapped f n) (λ j e. different (sym e)) k in (
-      λ e. let h = value.0 e in let q = h.1 in let a : s.first ≡ f = cc in let b : s.count ≡ n = cc in (h.0, (a, b)),
+    let value = value_by (pages_of s) (record { first = f; count = n }) k in (
+      λ e. let h = value.0 e in (h.0, (ap (λ (p : Mapped). p.first) h.1, ap (λ (p : Mapped). p.count) h.1)),
       λ h. value.1 (h.0, rw (h.1.0, h.1.1)),
     )
 
-same : (j n : ℕ) → Refused j ≡ Refused n → j ≡ n
-same j n e = cc
-
-pub refused_answer : (k : ℕ) (s : State) (n : ℕ) → (answer_of k s ≡ Refused n) ↔ ((0 < n) × (k ≡ n))
+pub refused_answer : (k : ℕ) (s : State) (n : ℕ) → (answer_of k s ≡ Err n) ↔ ((0 < n) × (k ≡ n))
 unfolding answer_of
-refused_answer k s n = number_exactly Refused (Mapped s.first s.count) (λ j e. different e) same k n
+refused_answer k s n = refused_by (pages_of s) k n
 
 pub number_is_first : NumberIsFirst
 unfolding walk_of answer_of
-number_is_first w m t = number_of_lem Refused (Mapped (end_state w m t).first (end_state w m t).count) number_of refl (λ n. refl) (first_failing (walk_rules w m t))
+number_is_first w m t = number_by (pages_of (end_state w m t)) (first_failing (walk_rules w m t))
 
 pub mapped_exactly : MappedExactly
 unfolding walk_of
@@ -74,10 +72,7 @@ mapped_exactly w m t f n =
 pub refused_exactly : RefusedExactly
 unfolding walk_of answer_of
 refused_exactly w m t n =
-    number_means Refused (Mapped (end_state w m t).first (end_state w m t).count) (walk_rules w m t) (walk_meanings w m t) (walk_agree w m t)
-    (λ j e. different e)
-    same
-    n
+    refused_means (pages_of (end_state w m t)) (walk_rules w m t) (walk_meanings w m t) (walk_agree w m t) n
 
 -- WHAT WAS FOUND
 

@@ -1,13 +1,14 @@
 -- What the contracts of private functions say of one entry and of entries in turn, and how what the code keeps tells what was found.
-use Rattle.std.specs.Prelude.{ℕ, ◌+◌, ◌-◌, ◌≤◌, ◌<◌, ◌≡◌, cond, List, eqb}
+use Rattle.std.specs.Prelude.{ℕ, ◌+◌, ◌-◌, ◌≤◌, ◌<◌, ◌≡◌, cond, List, eqb, Result, Ok}
 use Rattle.range.specs.declared.Range.{Range}
-use Rattle.range.specs.Range.{inside_of, end_of, page_size, highest_end}
-use Rattle.rules.specs.Rules.{first_failing, or_else}
+use Rattle.range.specs.Range.{inside_of, page_size, highest_end}
+use Rattle.rules.specs.declared.refusal.Refusal.{Refusal}
+use Rattle.rules.specs.Refusal.{number_of, numbered}
+use Rattle.rules.specs.Rules.{first_failing}
 use Rattle.rules.specs.Tests.{filter}
 use Rattle.pages.specs.declared.Kind.{Kind}
 use Rattle.pages.specs.declared.Kind.TheVariants.{Pointer, Directory, Page}
-use Rattle.pages.specs.declared.levels.Run.{Run}
-use Rattle.pages.specs.declared.levels.Progress.{Progress}
+use Rattle.pages.specs.declared.progress.Progress.{Progress}
 use Rattle.pages.specs.Memory.{Memory, regions}
 use Rattle.pages.specs.Tables.{Found}
 use Rattle.pages.specs.Rules.{State, most_tables, after_all, rules_from}
@@ -33,21 +34,10 @@ first_address p a = cond (eqb p.count 0) a p.pages.base
 abbrev pub pages_to : Progress → ℕ → Range
 pages_to p a = up_to (first_address p a) a
 
--- the pages begin at or below the last address found, and end with the page there at the latest
-pub record Ordered (p : Progress) : Type 0 where
-  pub from : p.pages.base ≤ p.last
-  pub to : end_of p.pages ≤ p.last + page_size
-
 -- an address above all that was found, and below the end of memory, so that no sum wraps
 pub record Above (p : Progress) (a : ℕ) : Type 0 where
-  pub ordered : Ordered p
   pub above : p.last < a
   pub below : a < highest_end
-
--- what is kept leads from what was found before to what was found after
-pub record Leads (next : State → State) (before after : Progress) : Type 0 where
-  pub ordered : Ordered after
-  pub state : (m : Memory) → state_of m after ≡ next (state_of m before)
 
 -- ENTRIES TRIED
 
@@ -58,7 +48,6 @@ Room Directory p l = p.tables < most_tables
 Room Page p l = p.count ≤ l
 
 -- after entries in turn: the number is that of the first rule that fails, and where none does, what is kept tells what was found
-pub record Tried (window : Range) (m : Memory) (before after : Run) (es : List Found) : Type 0 where
-  pub ordered : Ordered before.progress → Ordered after.progress
-  pub number : after.number ≡ or_else before.number (first_failing (rules_from window m (state_of m before.progress) es))
-  pub state : after.number ≡ 0 → state_of m after.progress ≡ after_all (state_of m before.progress) es
+pub record Tried (window : Range) (m : Memory) (before : Progress) (after : Result Progress Refusal) (es : List Found) : Type 0 where
+  pub number : number_of (numbered after) ≡ first_failing (rules_from window m (state_of m before) es)
+  pub state : (p : Progress) → after ≡ Ok p → state_of m p ≡ after_all (state_of m before) es

@@ -1,16 +1,16 @@
 -- What the walk means, as plain statements: `Walked` of a walk that refuses nothing, and `Walks`, the rules that it then obeys, exactly.
-use Rattle.std.specs.Prelude.{ℕ, zero, suc, ◌+◌, ◌*◌, ◌/◌, ◌%◌, ◌^◌, ◌≤◌, ◌<◌, ◌≡◌, ◌↔◌, ◌⊎◌, ◌≢◌, true, cond, List, [], ◌∷◌, ◌++◌}
+use Rattle.std.specs.Prelude.{ℕ, zero, suc, ◌+◌, ◌*◌, ◌/◌, ◌%◌, ◌^◌, ◌≤◌, ◌<◌, ◌≡◌, ◌↔◌, ◌⊎◌, ◌≢◌, true, cond, List, [], ◌∷◌, ◌++◌, Err}
 use Rattle.range.specs.declared.Range.{Range}
 use Rattle.range.specs.Range.{Has, page_size}
 use Rattle.rules.specs.Rules.{first_failing, Every, Some}
 use Rattle.rules.specs.Meaning.{Meaning, meaning, FirstBroken}
+use Rattle.rules.specs.Refusal.{number_of}
 use Rattle.pages.specs.declared.Kind.{Kind}
 use Rattle.pages.specs.declared.Kind.TheVariants.{Pointer, Directory, Page}
-use Rattle.pages.specs.declared.WalkAnswer.TheVariants.{Mapped, Refused}
 use Rattle.pages.specs.Entry.{present_of, address_of}
 use Rattle.pages.specs.Memory.{Memory, page_of, window_of, forbidden, regions, holding}
 use Rattle.pages.specs.Tables.{entry_at, level_size, Found, found}
-use Rattle.pages.specs.Rules.{State, most_tables, start_of, after_entry, walk_rules, walk_of, number_of}
+use Rattle.pages.specs.Rules.{State, most_tables, start_of, after_entry, walk_rules, mapped, walk_of}
 
 -- RANGES
 
@@ -165,12 +165,12 @@ NumberIsFirst = (w : List ℕ) (m : Memory) (t : ℕ) → number_of (walk_of w m
 
 -- pages are mapped exactly where the rules hold with them
 abbrev pub MappedExactly : Type 0
-MappedExactly = (w : List ℕ) (m : Memory) (t f n : ℕ) → (walk_of w m t ≡ Mapped f n) ↔ Walks w m t f n
+MappedExactly = (w : List ℕ) (m : Memory) (t f n : ℕ) → (walk_of w m t ≡ mapped f n) ↔ Walks w m t f n
 
 -- a number is answered exactly where it is that of the first rule that is broken
 abbrev pub RefusedExactly : Type 0
-RefusedExactly = (w : List ℕ) (m : Memory) (t n : ℕ) → (walk_of w m t ≡ Refused n) ↔ FirstBroken (walk_meanings w m t) n
+RefusedExactly = (w : List ℕ) (m : Memory) (t n : ℕ) → (walk_of w m t ≡ Err n) ↔ FirstBroken (walk_meanings w m t) n
 
 -- what a walk that refuses nothing has found
 abbrev pub FoundByWalk : Type 0
-FoundByWalk = (w : List ℕ) (m : Memory) (t f n : ℕ) → walk_of w m t ≡ Mapped f n → Walked w m t f n
+FoundByWalk = (w : List ℕ) (m : Memory) (t f n : ℕ) → walk_of w m t ≡ mapped f n → Walked w m t f n

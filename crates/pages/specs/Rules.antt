@@ -1,12 +1,11 @@
 -- The rules of the walk, in the order they are tried: those of the base, then those of each entry that is present, in breadth-first order.
-use Rattle.std.specs.Prelude.{ℕ, ◌+◌, ◌%◌, Bool, cond, ◌||◌, List, [], ◌∷◌, ◌++◌, ltb, eqb}
+use Rattle.std.specs.Prelude.{ℕ, ◌+◌, ◌%◌, Bool, cond, ◌||◌, List, [], ◌∷◌, ◌++◌, ltb, eqb, Result, Ok, Err}
 use Rattle.range.specs.declared.Range.{Range}
 use Rattle.range.specs.Range.{inside_of, page_size}
 use Rattle.rules.specs.Rules.{Rule, rule, first_failing, answer_for}
 use Rattle.pages.specs.declared.Kind.{Kind}
 use Rattle.pages.specs.declared.Kind.TheVariants.{Pointer, Directory, Page}
-use Rattle.pages.specs.declared.WalkAnswer.{WalkAnswer}
-use Rattle.pages.specs.declared.WalkAnswer.TheVariants.{Mapped, Refused}
+use Rattle.pages.specs.declared.Mapped.{Mapped}
 use Rattle.pages.specs.Entry.{address_of, reserved_clear}
 use Rattle.pages.specs.Memory.{Memory, page_of, window_of, regions, allowed, protected, holding}
 use Rattle.pages.specs.Tables.{Found, found}
@@ -93,14 +92,13 @@ walk_rules w m t =
 unfoldable pub end_state : List ℕ → Memory → ℕ → State
 end_state w m t = after_all (start_of m t) (found w m.window t)
 
+-- n pages are mapped from the linear page f on
+abbrev pub mapped : ℕ → ℕ → Result Mapped ℕ
+mapped f n = Ok (record { first = f; count = n })
+
 -- the answer for a number: 0 gives the first linear page and how many there are, every other is a refusal
-unfoldable pub answer_of : ℕ → State → WalkAnswer
-answer_of n s = answer_for Refused (Mapped s.first s.count) n
+unfoldable pub answer_of : ℕ → State → Result Mapped ℕ
+answer_of n s = answer_for Err (mapped s.first s.count) n
 
-unfoldable pub walk_of : List ℕ → Memory → ℕ → WalkAnswer
+unfoldable pub walk_of : List ℕ → Memory → ℕ → Result Mapped ℕ
 walk_of w m t = answer_of (first_failing (walk_rules w m t)) (end_state w m t)
-
--- the number of an answer
-abbrev pub number_of : WalkAnswer → ℕ
-number_of (Mapped first count) = 0
-number_of (Refused n) = n

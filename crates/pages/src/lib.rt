@@ -4,6 +4,7 @@
 mod entry;
 mod levels;
 mod placement;
+mod progress;
 mod tables;
 
 pub use entry::address;
@@ -30,9 +31,9 @@ pub struct MemoryRanges {
     pub high: Range,
 }
 
-// The first linear page and how many pages follow one another from it, or the number of the rule that refuses the tables.
+// The linear pages that are mapped: the first, and how many follow one another from it.
 #[derive(Clone, Copy)]
-pub enum WalkAnswer {
-    Mapped { first: u32, count: u32 },
-    Refused(u32),
+pub struct Mapped {
+    pub first: u32,
+    pub count: u32,
 }

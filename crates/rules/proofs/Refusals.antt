@@ -9,7 +9,7 @@ use lib.Dec.{lit<}
 use Rattle.std.specs.Prelude.{⊤, Result, Ok, Err}
 use Rattle.rules.specs.declared.refusal.Refusal.{Refusal}
 use Rattle.rules.specs.declared.refusal.Refusal.TheVariants as refusals
-use Rattle.rules.specs.Refusal.{number, number_of, numbered}
+use Rattle.rules.specs.Refusal.{number, number_of, numbered, failing}
 use Rattle.rules.specs.Rules.{Rule, answer_for, answer_by}
 use Rattle.rules.specs.Meaning.{Meaning, FirstBroken}
 use Rattle.rules.proofs.Meaning.{Agree}
@@ -147,3 +147,12 @@ pub rule_at : {A : Type 0} (a : A) (k : ℕ) (b : Bool) (x : Refusal) {r : Resul
     → ((y : Refusal) × (r ≡ Err y) × (y ≡ e)) → ◌≡◌ {A = Step} (Err e) (cond b (Ok tt) (Err x)) → (b ≡ false → number x ≡ k)
     → numbered r ≡ answer_for Err (Ok a) k
 rule_at a k b x p q f = let h = failed b x q in refusal_at a k p (ap number h.1 ∙ f h.0)
+
+-- THE NUMBER of a chain of `require`: a rule that held leaves it to the later ones, and the last one gives it
+
+pub rule_held : (b t : Bool) (x : Refusal) (n later k : ℕ) {u : ⊤} → ◌≡◌ {A = Step} (Ok u) (cond b (Ok tt) (Err x)) → b ≡ t → n ≡ later → n ≡ cond t later k
+rule_held b t x n later k q e f = rw (sym e ∙ held b x q) f
+
+pub rule_last : (b t : Bool) (x : Refusal) {r : Step} → r ≡ cond b (Ok tt) (Err x) → b ≡ t → failing r ≡ cond t 0 (number x)
+rule_last true t x q e = rw (q, ← e)
+rule_last false t x q e = rw (q, ← e)

@@ -1,28 +1,23 @@
--- `step` meets its contract: an entry that is absent changes nothing, one that breaks a rule gives its number, and any other is counted.
+-- `step` meets its contract: an entry that is absent changes nothing, one that breaks a rule refuses, and any other is counted.
 use mathlib.Core.Path.{sym, ◌∙◌}
-use Rattle.pages.proofs.Tried.{tried_refused, step_absent, step_fault, step_passed, above, room}
-use borrow.Author.Rules.{rules}
+use Rattle.std.proofs.lemmas.Result.{err_from_is_err_and}
+use Rattle.pages.proofs.Tried.{returned, step_absent, step_fault, step_passed, above, room}
 use Rattle.pages.proofs.levels.step.Goals as goal
-
-pub returns-then-r-ne0 : goal.returns-then-r-ne0
-returns-then-r-ne0 c = tried_refused _ _ _ _ c.if-r-ne0.true
 
 pub returns-then-not-present : goal.returns-then-not-present
 returns-then-not-present c = step_absent _ _ _ _ _ _ (sym c.present.ensures ∙ c.if-not-present.true)
 
-pub returns-then-number-ne0 : goal.returns-then-number-ne0
-returns-then-number-ne0 c =
-    step_fault _ _ _ _ _ _ _ c.if-r-ne0.false (sym c.present.ensures ∙ c.if-not-present.false)
-    c.entry_fault-number.ensures
-    c.if-number-ne0.true
+pub returns-in_err-judge_entry : goal.returns-in_err-judge_entry
+returns-in_err-judge_entry c =
+    returned _ _ _ _ (err_from_is_err_and c.from_residual.result c.from_residual.ensures.1)
+    (step_fault _ _ _ _ _ _ _ (sym c.present.ensures ∙ c.if-not-present.false) c.in_err-judge_entry.ensures)
 
-pub after_entry-next-requires : goal.after_entry-next-requires
-after_entry-next-requires c =
-    let none = sym c.entry_fault-number.ensures ∙ c.if-number-ne0.false in
-    (rw c.address.ensures (above _ _ _ _ _ _ none c.requires.0), (room _ _ _ _ _ _ none, search rules))
+pub with_entry-requires : goal.with_entry-requires
+with_entry-requires c =
+    let none = c.in_ok-judge_entry.ensures in
+    record { above = rw c.address.ensures (above _ _ _ _ _ _ none); room = room _ _ _ _ _ _ none; in_level = c.requires }
 
 pub returns : goal.returns
 returns c =
-    step_passed _ _ _ _ _ _ _ c.if-r-ne0.false (sym c.present.ensures ∙ c.if-not-present.false)
-    (sym c.entry_fault-number.ensures ∙ c.if-number-ne0.false)
-    (rw c.address.ensures at c.after_entry-next.ensures)
+    step_passed _ _ _ _ _ _ _ (sym c.present.ensures ∙ c.if-not-present.false) c.in_ok-judge_entry.ensures
+    (rw c.address.ensures at c.with_entry.ensures)

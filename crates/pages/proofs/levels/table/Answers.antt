@@ -1,11 +1,8 @@
 -- `table` meets its contract: where the directory entry is absent, so is each of its pages.
 use mathlib.Core.Path.{sym, ap, ◌∙◌}
 use Rattle.pages.specs.Entry.{present_of}
-use Rattle.pages.proofs.Tried.{tried_refused, table_skipped}
+use Rattle.pages.proofs.Tried.{table_skipped}
 use Rattle.pages.proofs.levels.table.Goals as goal
-
-pub returns-then-r-ne0 : goal.returns-then-r-ne0
-returns-then-r-ne0 c = tried_refused _ _ _ _ c.if-r-ne0.true
 
 pub returns-then-not-present : goal.returns-then-not-present
 returns-then-not-present c =

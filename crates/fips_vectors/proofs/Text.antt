@@ -1,11 +1,7 @@
 -- The line of a digest as a loop writes it: the digits that stand already, and the line of the bytes that are left.
-use mathlib.Core.Path.{◌≡◌}
-use mathlib.Core.List.{List, ◌++◌, append_assoc}
-use Prim.Native.Nat.{ℕ, suc, ◌+◌, ◌*◌, ◌/◌, ◌%◌, ◌<◌, ◌≤◌}
-use native.Mathlib.Numerals.{add-one}
-use native.Mathlib.Omega.{arith}
-use lib.ListN.{length, take, drop, set, get_or, length-set, drop_of_length-le}
-use lib.Seq.{drop-cons, set_split, take-suc-set}
+use Rattle.std.proofs.Common.{◌≡◌, ℕ, suc, ◌+◌, ◌*◌, ◌/◌, ◌%◌, ◌<◌, ◌≤◌, List, ◌++◌, length, take, drop, set, get_or, append_assoc, add-one, arith, length-set, drop-cons}
+use Rattle.std.proofs.lemmas.List.{drop_all, set_split}
+use lib.Seq.{take-suc-set}
 use Rattle.fips_vectors.specs.Digits.{hex_digit_ascii}
 use Rattle.fips_vectors.specs.Line.{line_of}
 
@@ -29,5 +25,5 @@ pub end : (d text : List ℕ) (i n : ℕ) → length d ≤ i → n ≡ 2 * i →
     → Written d text i → set text n 10 ≡ line_of d
 unfolding line_of
 end d text i n all double room e =
-    rw (set_split text n 10 (omega arith), drop_of_length-le text {i = suc n} (omega arith), double)
-    (rw (drop_of_length-le d {i = i} all) at e)
+    rw (set_split text n 10 (omega arith), drop_all (suc n) text (omega arith), double)
+    (rw (drop_all i d all) at e)

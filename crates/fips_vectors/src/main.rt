@@ -9,14 +9,12 @@ ghost use Rattle.fips_vectors.specs.Line.{line_of};
 use std::io;
 
 // The hexadecimal digit of the low half of a byte.
+#[tactic(auto, using(std::proofs::lemmas::Bool::Decides::nat_tests))]
 fn digit(b: u8) -> u8
     ensures { result ≡ hex_digit_ascii (b % 16) }
 {
     let x = b % 16;
-    if x < 10 {
-        return b'0' + x;
-    }
-    b'a' + (x - 10)
+    if x < 10 { b'0' + x } else { b'a' + (x - 10) }
 }
 
 // A digest as a line of text: its bytes in hexadecimal, and the line feed.
@@ -24,11 +22,9 @@ fn line(digest: [u8; 32]) -> [u8; 65]
     ensures { result ≡ line_of digest }
 {
     let mut text = [0u8; 65];
-    let mut i = 0;
-    while i < 32 {
-        text[2 * i] = digit(digest[i] / 16);
-        text[2 * i + 1] = digit(digest[i]);
-        i += 1;
+    for (i, byte) in digest.iter().enumerate() {
+        text[2 * i] = digit(*byte / 16);
+        text[2 * i + 1] = digit(*byte);
     }
     text[64] = b'\n';
     text
@@ -46,11 +42,9 @@ fn print_digest(rt: &impl Print, m: &[u8]) -> io::Result<()> {
 fn million() -> [u8; 32] {
     let part = [b'a'; 1000];
     let mut s = sha256::start();
-    let mut k: usize = 0;
-    while k < 1000 {
+    for _ in 0..1000 {
         let next = sha256::absorb(s, &part);
         s = next;
-        k += 1;
     }
     sha256::finish(s)
 }
@@ -71,23 +65,19 @@ fn print_examples(rt: &impl Print) -> io::Result<()> {
 
 // The pattern: byte i is 7 * i + 3 modulo 256. It is as long as parts of 0, 1, 2, .., 199 bytes together.
 fn pattern() -> [u8; 19900] {
-    let mut s = [0u8; 19900];
-    let mut i = 0;
-    while i < 19900 {
-        s[i] = ((7 * i + 3) % 256) as u8;
-        i += 1;
-    }
-    s
+    std::array::from_fn(
+        |i: usize| -> u8
+            requires { i < 19900 }
+        { ((7 * i + 3) % 256) as u8 },
+    )
 }
 
 // The digests of the first 0, 1, 2, .., 200 bytes of m.
 fn print_lengths(rt: &impl Print, m: &[u8]) -> io::Result<()>
     requires { 200 ≤ length m.now }
 {
-    let mut n = 0;
-    while n <= 200 {
+    for n in 0..=200 {
         print_digest(rt, &m[..n])?;
-        n += 1;
     }
     Ok(())
 }
@@ -99,15 +89,15 @@ fn in_parts(m: &[u8], first: usize, more: usize) -> [u8; 32]
 {
     let mut s = sha256::start();
     let mut size = first;
-    let mut at = 0;
-    while size < m.len() - at {
-        let e = at + size;
-        let next = sha256::absorb(s, &m[at..e]);
+    let mut rest = m;
+    while size < rest.len() {
+        let (part, behind) = rest.split_at(size);
+        let next = sha256::absorb(s, part);
         s = next;
-        at = e;
+        rest = behind;
         size += more;
     }
-    sha256::finish(sha256::absorb(s, &m[at..]))
+    sha256::finish(sha256::absorb(s, rest))
 }
 
 // The whole of m in five ways, which print the same line: in parts of 0, 1, 2, .. bytes, in one part, and in parts of 64, 63

@@ -1,6 +1,10 @@
 -- The bytes of a number, the highest first, for every width.
-use Rattle.std.proofs.Common.{◌≡◌, ℕ, zero, suc, ◌+◌, ◌-◌, ◌*◌, ◌/◌, ◌%◌, ◌^◌, ◌<◌, List, [], ◌∷◌, length, get_or, sym, refl, ap, ◌∙◌, not-suc-le-zero, pow-suc, arith, lit<, length-append, pow_pos, pow-add}
+use Rattle.std.proofs.Common.{◌≡◌, ℕ, zero, suc, ◌+◌, ◌*◌, ◌/◌, ◌%◌, ◌^◌, ◌<◌, ◌≤◌, List, [], ◌∷◌, ◌++◌, length, get_or, sym, refl, ap, ◌∙◌, ap₂, append_assoc, append-nil, take, pow-suc, arith, lit<, length-append, pow_pos, pow-add}
+use Rattle.std.proofs.lemmas.List.{take_more}
+use Rattle.std.proofs.lemmas.Slice.{take-put_mid}
+use Rattle.std.specs.Int.{w32, w64, to_be_bytes}
 use lib.Arith.{mod-mul}
+use borrow.Rule.Slice.PartMut.{put_mid}
 use Rattle.sha256.specs.Message.{byte_of, big_endian, numeral, digest_of}
 
 -- a byte is what a shift by its place leaves
@@ -12,19 +16,23 @@ pow_eight (suc k) =
     ∙ ap (λ (n : ℕ). n * 256) (pow_eight k)
     ∙ sym (pow-suc 256 k)
 
-pub shifted : (x k : ℕ) → x / 2 ^ (8 * k) % 256 ≡ byte_of k x
-shifted x k = rw pow_eight
-
 pub length_big : (k x : ℕ) → length (big_endian k x) ≡ k
 unfolding big_endian
 length_big zero x = refl
 length_big (suc k) x = ap suc (length_big k x)
 
-pub get_d_big : (k x i : ℕ) → i < k → get_or (big_endian k x) i 0 ≡ byte_of (k - 1 - i) x
-unfolding big_endian
-get_d_big zero x i h = absurd (not-suc-le-zero h)
-get_d_big (suc k) x zero h = ap (λ (n : ℕ). byte_of n x) (omega arith)
-get_d_big (suc k) x (suc i) h = get_d_big k x i (omega arith) ∙ ap (λ (n : ℕ). byte_of n x) (omega arith)
+-- as the library has them
+module _ (x : ℕ) where
+  one : x / 1 ≡ x
+  one = omega arith
+
+  pub four_bytes : to_be_bytes w32 x ≡ big_endian 4 x
+  unfolding big_endian
+  four_bytes = rw one
+
+  pub eight_bytes : to_be_bytes w64 x ≡ big_endian 8 x
+  unfolding big_endian
+  eight_bytes = rw one
 
 -- the bytes of a number write it, as far as they are enough
 pub numeral_big : (k x : ℕ) → numeral (big_endian k x) ≡ x % 256 ^ k
@@ -44,14 +52,19 @@ unfolding digest_of
 length_digest [] = refl
 length_digest (x ∷ h) = length-append (big_endian 4 x) (digest_of h) ∙ omega (arith, length_big 4 x, length_digest h)
 
-pub get_d_digest : (h : List ℕ) (i : ℕ) → i < 4 * length h → get_or (digest_of h) i 0 ≡ byte_of (3 - i % 4) (get_or h (i / 4) 0)
-unfolding digest_of big_endian
-get_d_digest [] i l = absurd (omega arith)
-get_d_digest (x ∷ h) zero l = refl
-get_d_digest (x ∷ h) (suc zero) l = refl
-get_d_digest (x ∷ h) (suc (suc zero)) l = refl
-get_d_digest (x ∷ h) (suc (suc (suc zero))) l = refl
-get_d_digest (x ∷ h) (suc (suc (suc (suc i)))) l =
-    let q : suc (suc (suc (suc i))) / 4 ≡ suc (i / 4) = omega arith in
-    let r : suc (suc (suc (suc i))) % 4 ≡ i % 4 = omega arith in
-    rw (q, r) (get_d_digest h i (omega arith))
+pub digest_append : (h g : List ℕ) → digest_of (h ++ g) ≡ digest_of h ++ digest_of g
+unfolding digest_of
+digest_append [] g = refl
+digest_append (x ∷ h) g = ap (λ (l : List ℕ). big_endian 4 x ++ l) (digest_append h g) ∙ sym (append_assoc (big_endian 4 x) (digest_of h) (digest_of g))
+
+-- one word more, whose bytes are written behind those of the words before it
+pub digest_more : (h d y : List ℕ) (i k : ℕ) → i < length h → 4 * i ≤ length d → take (4 * i) d ≡ digest_of (take i h) → y ≡ big_endian 4 (get_or h i 0)
+    → take (4 * (i + 1)) (put_mid (4 * i) k d y) ≡ digest_of (take (i + 1) h)
+unfolding digest_of
+digest_more h d y i k lt room front e =
+    let x = get_or h i 0 in
+    let size : length y ≡ 4 = ap length e ∙ length_big 4 x in
+    take-put_mid (4 * i) k d y (4 * (i + 1)) (omega arith) room
+    ∙ ap₂ ◌++◌ front (e ∙ sym (append-nil (big_endian 4 x)))
+    ∙ sym (digest_append (take i h) (x ∷ []))
+    ∙ ap digest_of (sym (take_more h i 0 lt))

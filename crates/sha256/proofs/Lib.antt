@@ -1,4 +1,3 @@
-pub mod Fill
 pub mod BigEndian
 pub mod Padding
 pub mod Hashing

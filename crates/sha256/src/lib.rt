@@ -1,9 +1,7 @@
 // SHA-256 (FIPS 180-4): of a slice, or of a message that comes in parts.
 #![tactic(auto)]
 
-mod number;
-
-ghost use Rattle.std.specs.Prelude.{◌≡◌, ◌%◌, ◌≤◌, ◌++◌, length, take, replicate, drop};
+ghost use Rattle.std.specs.Prelude.{◌≡◌, ◌%◌, ◌≤◌, ◌++◌, length, take, replicate};
 ghost use Rattle.sha256_block.specs.Block.{hash_blocks};
 ghost use Rattle.sha256.specs.Message.{padding, digest_of, sha256};
 ghost use Rattle.sha256.specs.State.{started, Absorbed, finish_of};
@@ -36,57 +34,45 @@ pub fn start() -> Running
     }
 }
 
-// Writes the bytes of a string to the front of another that is as long or longer.
-fn copy(s: &[u8], t: &mut [u8])
-    requires { length s.now ≤ length t.old }
-    ensures { t.new ≡ take (length s.now) s.now ++ drop (length s.now) t.old }
-{
-    t[..s.len()].copy_from_slice(s);
-}
-
 // The state after one part more of the message. The block is filled in place; once it is full it is hashed, and then holds the rest
 // of the part.
+#[tactic(auto, using(crate::proofs::Hashing::kept))]
 pub fn absorb(s: Running, part: &[u8]) -> Running
     ensures { Absorbed s part.now result }
 {
     let fill = (s.total % 64) as usize;
-    let total = std::num::wrapping_add_u64(s.total, part.len() as u64);
+    let total = s.total.wrapping_add(part.len() as u64);
     let room = 64 - fill;
     let mut block = s.block;
-    let words = s.words;
     if part.len() < room {
-        copy(part, &mut block[fill..]);
-        return Running {
-            words: words,
-            block: block,
-            total: total,
-        };
+        block[fill..fill + part.len()].copy_from_slice(part);
+        return Running { block, total, ..s };
     }
-    copy(&part[..room], &mut block[fill..]);
-    let first = hash_blocks(words, &block);
-    let behind = &part[room..];
-    let all = hash_blocks(first, behind);
-    let at = behind.len() / 64 * 64;
-    copy(&behind[at..], &mut block);
+    let (front, behind) = part.split_at(room);
+    block[fill..].copy_from_slice(front);
+    let first = hash_blocks(s.words, &block);
+    let words = hash_blocks(first, behind);
+    let rest = behind.as_chunks::<64>().1;
+    block[..rest.len()].copy_from_slice(rest);
     Running {
-        words: all,
-        block: block,
-        total: total,
+        words,
+        block,
+        total,
     }
 }
 
-// Writes the bytes behind the whole blocks of a message of `total` bytes, and its padding, to the front of 128 zeros. It answers how
-// many bytes these are.
-fn pad(p: &mut [u8], rest: &[u8], total: u64) -> usize
-    requires { (p.old ≡ replicate 128 0) × (length rest.now ≡ total % 64) }
-    ensures { (result ≤ 128) × (take result p.new ≡ rest.now ++ padding total) }
+// The bytes behind the whole blocks of a message of `total` bytes, and its padding, in the front of 128 zeros.
+fn padded<'a>(p: &'a mut [u8; 128], rest: &[u8], total: u64) -> &'a [u8]
+    requires zeros { p.old ≡ replicate 128 0 }
+    requires waits { length rest.now ≡ total % 64 }
+    ensures { result.now ≡ rest.now ++ padding total }
 {
     let fill = rest.len();
     let at = fill + 1 + (119 - fill) % 64;
-    copy(rest, p);
+    p[..fill].copy_from_slice(rest);
     p[fill] = 0x80;
-    number::put(p, at, total << 3);
-    at + 8
+    p[at..at + 8].copy_from_slice(&(total << 3).to_be_bytes());
+    &p[..at + 8]
 }
 
 // The bytes of the hash value.
@@ -94,10 +80,8 @@ fn digest_bytes(h: [u32; 8]) -> [u8; 32]
     ensures { result ≡ digest_of h }
 {
     let mut d = [0u8; 32];
-    let mut i = 0;
-    while i < 32 {
-        d[i] = number::byte(h[i / 4] as u64, 3 - i % 4);
-        i += 1;
+    for (i, word) in h.iter().enumerate() {
+        d[4 * i..4 * i + 4].copy_from_slice(&word.to_be_bytes());
     }
     d
 }
@@ -108,26 +92,23 @@ fn digest_from(words: [u32; 8], rest: &[u8], total: u64) -> [u8; 32]
     ensures { result ≡ digest_of (hash_blocks words (rest.now ++ padding total)) }
 {
     let mut p = [0u8; 128];
-    let n = pad(&mut p, rest, total);
-    let h = hash_blocks(words, &p[..n]);
-    digest_bytes(h)
+    digest_bytes(hash_blocks(words, padded(&mut p, rest, total)))
 }
 
 // The digest of the message that a state has absorbed.
+#[tactic(auto, unfolding(crate::specs::State::finish_of))]
 pub fn finish(s: Running) -> [u8; 32]
     ensures { result ≡ finish_of s }
 {
     let fill = (s.total % 64) as usize;
-    let block = s.block;
-    let words = s.words;
-    digest_from(words, &block[..fill], s.total)
+    digest_from(s.words, &s.block[..fill], s.total)
 }
 
 // The digest of a message in one slice.
+#[tactic(auto, using(crate::proofs::Parts::digest_parts))]
 pub fn digest(m: &[u8]) -> [u8; 32]
     ensures { result ≡ sha256 m.now }
 {
-    let words = hash_blocks(H0, m);
-    let at = m.len() / 64 * 64;
-    digest_from(words, &m[at..], m.len() as u64)
+    let rest = m.as_chunks::<64>().1;
+    digest_from(hash_blocks(H0, m), rest, m.len() as u64)
 }

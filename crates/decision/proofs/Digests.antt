@@ -1,6 +1,6 @@
 -- The digests of an element, one after the other in its body: one of them is the digest that is looked for, or one of those that are left.
-use Prim.Native.Nat.{ℕ, zero, suc, ◌+◌, ◌-◌, ◌≤◌, ◌<◌}
-use mathlib.Core.Path.{◌≡◌, sym, ◌∙◌}
+use Prim.Native.Nat.{ℕ, zero, suc, ◌+◌, ◌*◌, ◌-◌, ◌≤◌, ◌<◌}
+use mathlib.Core.Path.{◌≡◌, refl, sym, ◌∙◌}
 use mathlib.Core.Bool.{Bool, true, false}
 use mathlib.Core.List.{List}
 use native.Mathlib.Omega.{arith}
@@ -15,26 +15,33 @@ use Rattle.field.proofs.Laws.{marked_same}
 unfoldable pub named_from : List ℕ → List ℕ → ℕ → ℕ → Bool
 named_from digest b at left = any (same digest) (pieces left 32 (drop at b))
 
-module _ (digest b : List ℕ) (start count at left : ℕ) (inv : named_from digest b start count ≡ named_from digest b at left) where
-  module _ (r : Bool) (l : length digest ≡ 32) (z : 0 < left) (e : r ≡ marked_at b at digest) where
+pub named_start : (digest b : List ℕ) (start count : ℕ) → named_from digest b start count ≡ named_from digest b (start + 32 * 0) (count - 0)
+named_start digest b start count =
+    let e₁ : start + 32 * 0 ≡ start = omega arith in
+    let e₂ : count - 0 ≡ count = omega arith in
+    rw (e₁, e₂)
+
+module _ (digest b : List ℕ) (start count k : ℕ) (inv : named_from digest b start count ≡ named_from digest b (start + 32 * k) (count - k)) where
+  module _ (r : Bool) (l : length digest ≡ 32) (z : k < count) (e : r ≡ marked_at b (start + 32 * k) digest) where
     pub first_is : r ≡ true → true ≡ any (same digest) (pieces count 32 (drop start b))
     unfolding named_from pieces
-    first_is h = sym (inv ∙ go left z)
+    first_is h = sym (inv ∙ go (count - k) (omega arith))
       where
-        go : (n : ℕ) → 0 < n → named_from digest b at n ≡ true
+        go : (n : ℕ) → 0 < n → named_from digest b (start + 32 * k) n ≡ true
         go zero z = absurd (omega arith)
-        go (suc n) z = rw (sym (marked_same b at digest 32 l (lit< tt)) ∙ sym e ∙ h)
+        go (suc n) z = rw (sym (marked_same b (start + 32 * k) digest 32 l (lit< tt)) ∙ sym e ∙ h)
 
-    pub first_is_not : r ≡ false → named_from digest b start count ≡ named_from digest b (at + 32) (left - 1)
+    pub first_is_not : r ≡ false → named_from digest b start count ≡ named_from digest b (start + 32 * (k + 1)) (count - (k + 1))
     unfolding named_from pieces
-    first_is_not h = inv ∙ go left z
+    first_is_not h = inv ∙ go (count - k) refl
       where
-        go : (n : ℕ) → 0 < n → named_from digest b at n ≡ named_from digest b (at + 32) (n - 1)
-        go zero z = absurd (omega arith)
-        go (suc n) z =
-            let i : suc n - 1 ≡ n = omega arith in
-            rw (i, sym (marked_same b at digest 32 l (lit< tt)) ∙ sym e ∙ h, drop-drop 32 at b)
+        go : (n : ℕ) → count - k ≡ n → named_from digest b (start + 32 * k) n ≡ named_from digest b (start + 32 * (k + 1)) (count - (k + 1))
+        go zero q = absurd (omega arith)
+        go (suc n) q =
+            let e₁ : start + 32 * (k + 1) ≡ start + 32 * k + 32 = omega arith in
+            let e₂ : count - (k + 1) ≡ n = omega arith in
+            rw (e₁, e₂, sym (marked_same b (start + 32 * k) digest 32 l (lit< tt)) ∙ sym e ∙ h, drop-drop 32 (start + 32 * k) b)
 
-  pub none_left : left ≤ 0 → false ≡ any (same digest) (pieces count 32 (drop start b))
+  pub none_left : count ≤ k → false ≡ any (same digest) (pieces count 32 (drop start b))
   unfolding named_from pieces
-  none_left h = let e : left ≡ 0 = omega arith in sym (inv ∙ rw e)
+  none_left h = let e : count - k ≡ 0 = omega arith in sym (inv ∙ rw e)

@@ -7,7 +7,7 @@ use Rattle.sha256.specs.declared.Running.{Running}
 use Rattle.sha256.specs.Message.{sha256}
 use Rattle.sha256.specs.State.{started, Absorbed, finish_of, Holds}
 use Rattle.sha256.proofs.Parts.{start_holds, absorb_holds, finish_holds}
-use Rattle.policy_answers.specs.declared.ListAnswer.{ListAnswer}
+use Rattle.policy_answers.specs.Types.{ListAnswer}
 use Rattle.policy_grammar.specs.Grammar.{Signing, PolicyList}
 use Rattle.policy_grammar.specs.Grammar as Grammar
 use Rattle.policy_answers.specs.Seen.{seen_list, list_part}

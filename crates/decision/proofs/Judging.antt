@@ -2,22 +2,23 @@
 -- so far and the elements that are left; and what that says of the list.
 use Prim.Native.Nat.{ℕ}
 use mathlib.Core.Path.{◌≡◌, refl, ap, sym, ◌∙◌}
-use mathlib.Core.Bool.{Bool, true, false, not, ◌&&◌, ◌||◌, or-true, or-false}
+use mathlib.Core.Bool.{Bool, true, false, not, ◌&&◌, ◌||◌, or-false}
 use mathlib.Core.List.{List, []}
-use native.Mathlib.Omega.{arith}
-use borrow.Author.Tests.{lt-ltb, not-true, not-false}
-use lib.ListN.{length}
-use Rattle.policy_answers.specs.declared.ElementAnswer.{ElementAnswer}
+use borrow.Author.Tests.{not-true, not-false}
+use Rattle.std.specs.Prelude.{Some, None}
+use Rattle.policy_answers.specs.Types.{ElementAnswer}
+use Rattle.policy_answers.specs.declared.ElementAt.{ElementAt}
+use Rattle.policy_answers.specs.declared.ElementBody.{ElementBody}
+use Rattle.policy_answers.specs.declared.ElementBody.TheVariants as bodies
+use Rattle.policy_answers.specs.Answers.{body_shown}
 use Rattle.policy_grammar.specs.Grammar.{Element}
 use Rattle.policy_answers.specs.Seen.{seen_element}
 use Rattle.policy_reader.proofs.Standing as kinds
 use Rattle.policy_reader.proofs.Walk.{Front, element_seen}
-use Rattle.sha256.specs.Message.{sha256}
 use Rattle.rules.specs.Tests.{every, any}
-use Rattle.decision.specs.declared.Judgement.{Judgement}
 use Rattle.decision.specs.declared.Judgement.TheVariants.{No, Yes, IfStmNamed}
-use Rattle.decision.specs.Lists.{Criteria, judged, names, is_stm, names_stm, stm_named, elements_permit}
-use Rattle.decision.specs.Inner.{judged_answer, is_stm_answer, test_seen, judgement_by, judgement_of, Counted}
+use Rattle.decision.specs.Lists.{Criteria, judged, names, is_stm, names_stm}
+use Rattle.decision.specs.Inner.{judged_body, is_stm_body, test_seen, judgement_by, judgement_of, Counted}
 use Rattle.decision.proofs.Naming.{judged_is, stm_is, counted_is}
 
 pub record Judging (k : Criteria) (es : List Element) (found stm : Bool) (rest : List Element) : Type 0 where
@@ -25,16 +26,23 @@ pub record Judging (k : Criteria) (es : List Element) (found stm : Bool) (rest :
   pub same_stm : any is_stm es ≡ (stm || any is_stm rest)
 
 -- a test of one more element, after what was found before
-reorder : (f n a : Bool) → (f || (n || a)) ≡ ((n || f) || a)
-reorder true n a = rw (or-true n)
-reorder false n a = rw (or-false n)
+reorder : (f n a : Bool) → (f || (n || a)) ≡ ((f || n) || a)
+reorder true n a = refl
+reorder false n a = refl
 
 -- the first element of those that are left, by the answer for it
-module _ {Kept : List Element → Type 0} (t : List ℕ) (at : ℕ) (e : ElementAnswer) (front : Front kinds.element t at Kept e) where
-  pub fits : Counted e
-  fits = rw front.shown (counted_is at front.first front.valid.0)
+module _ {Kept : List Element → Type 0} (t : List ℕ) (at : ℕ) (e : ElementAt) (front : Front kinds.element t at Kept (Some e)) where
+  abbrev body_in : ElementAnswer → ElementBody
+  body_in None = bodies.Custom
+  body_in (Some a) = a.body
 
-  tested : (test : Element → Bool) (n : Bool) → n ≡ test_seen test (seen_element t e) → n ≡ test front.first
+  body_is : e.body ≡ body_shown front.first.type front.first.body
+  body_is = ap body_in front.shown
+
+  pub fits : Counted e.body
+  fits = rw body_is (counted_is front.first front.valid.0)
+
+  tested : (test : Element → Bool) (n : Bool) → n ≡ test_seen test (seen_element t (Some e)) → n ≡ test front.first
   tested test n en = en ∙ ap (test_seen test) (ap (seen_element t) front.shown ∙ element_seen t at front.first front.others front.valid front.stand)
 
 module _ (k : Criteria) (es : List Element) where
@@ -45,22 +53,22 @@ module _ (k : Criteria) (es : List Element) where
   judging_end found stm h = rw (h.same, h.same_stm, or-false found, or-false stm)
 
   -- one element, by the answers for it
-  module _ (t : List ℕ) (at : ℕ) (found stm : Bool) (e : ElementAnswer) (front : Front kinds.element t at (Judging k es found stm) e) where
+  module _ (t : List ℕ) (at : ℕ) (found stm : Bool) (e : ElementAt) (front : Front kinds.element t at (Judging k es found stm) (Some e)) where
     abbrev x : Element
     x = front.first
 
-    module _ (j : Bool) (ej : j ≡ judged_answer e) where
+    module _ (j : Bool) (ej : j ≡ judged_body e.body) where
       j_is : j ≡ judged x
-      j_is = ej ∙ ap judged_answer front.shown ∙ judged_is at x front.valid.0
+      j_is = ej ∙ ap judged_body (body_is t at e front) ∙ judged_is x front.valid.0
 
       pub unjudged : j ≡ false → No ≡ judgement_of k es
       unjudged h = sym (rw (front.kept.same, sym j_is ∙ h))
 
-      pub judging_step : j ≡ true → (n : Bool) → n ≡ test_seen (names k) (seen_element t e) → (found' : Bool) → found' ≡ (n || found)
-          → (m : Bool) → m ≡ is_stm_answer e → (stm' : Bool) → stm' ≡ (m || stm) → Judging k es found' stm' front.others
+      pub judging_step : j ≡ true → (n : Bool) → n ≡ test_seen (names k) (seen_element t (Some e)) → (found' : Bool) → found' ≡ (found || n)
+          → (m : Bool) → m ≡ is_stm_body e.body → (stm' : Bool) → stm' ≡ (stm || m) → Judging k es found' stm' front.others
       judging_step h n en found' ef m em stm' es' =
           let n_is : n ≡ names k x = tested t at e front (names k) n en in
-          let m_is : m ≡ is_stm x = em ∙ ap is_stm_answer front.shown ∙ stm_is at x front.valid.0 in
+          let m_is : m ≡ is_stm x = em ∙ ap is_stm_body (body_is t at e front) ∙ stm_is x front.valid.0 in
           record {
             same =
                 front.kept.same
@@ -81,8 +89,8 @@ module _ (digest : List ℕ) (es : List Element) where
   pub naming_end : Naming digest es [] → false ≡ any (names_stm digest) es
   naming_end h = sym h.same
 
-  module _ (t : List ℕ) (at : ℕ) (e : ElementAnswer) (front : Front kinds.element t at (Naming digest es) e) where
-    module _ (n : Bool) (en : n ≡ test_seen (names_stm digest) (seen_element t e)) where
+  module _ (t : List ℕ) (at : ℕ) (e : ElementAt) (front : Front kinds.element t at (Naming digest es) (Some e)) where
+    module _ (n : Bool) (en : n ≡ test_seen (names_stm digest) (seen_element t (Some e))) where
       n_is : n ≡ names_stm digest front.first
       n_is = tested t at e front (names_stm digest) n en
 
@@ -103,36 +111,3 @@ module _ (found stm : Bool) where
 
   pub by_yes : not found ≡ false → stm ≡ false → Yes ≡ judgement_by found stm
   by_yes h e = rw (not-false found h, e)
-
-no_is : (x y : Bool) → judgement_by x y ≡ No → x ≡ false
-no_is false y e = refl
-no_is true false e = let z : ◌≡◌ {A = ℕ} 0 1 = cc in absurd (omega arith)
-no_is true true e = let z : ◌≡◌ {A = ℕ} 0 1 = cc in absurd (omega arith)
-
-yes_is : (x y : Bool) → judgement_by x y ≡ Yes → (x ≡ true) × (y ≡ false)
-yes_is false y e = let z : ◌≡◌ {A = ℕ} 0 1 = cc in absurd (omega arith)
-yes_is true false e = (refl, refl)
-yes_is true true e = let z : ◌≡◌ {A = ℕ} 0 1 = cc in absurd (omega arith)
-
-if_is : (x y : Bool) → judgement_by x y ≡ IfStmNamed → (x ≡ true) × (y ≡ true)
-if_is false y e = let z : ◌≡◌ {A = ℕ} 0 1 = cc in absurd (omega arith)
-if_is true false e = let z : ◌≡◌ {A = ℕ} 0 1 = cc in absurd (omega arith)
-if_is true true e = (refl, refl)
-
-module _ (k : Criteria) (es : List Element) (j : Judgement) (is : j ≡ judgement_of k es) where
-  pub do_not_permit : j ≡ No → false ≡ elements_permit k es
-  do_not_permit q = rw (no_is (every judged es && any (names k) es) (any is_stm es) (sym is ∙ q))
-
-  pub do_permit : j ≡ Yes → true ≡ elements_permit k es
-  do_permit q = let h = yes_is (every judged es && any (names k) es) (any is_stm es) (sym is ∙ q) in rw (h.0, h.1)
-
-  module _ (q : j ≡ IfStmNamed) where
-    permit_if : stm_named k.stm es ≡ elements_permit k es
-    permit_if = let h = if_is (every judged es && any (names k) es) (any is_stm es) (sym is ∙ q) in rw (h.0, h.1)
-
-    -- by the length of the STM image and its digest
-    pub no_image_lem : length k.stm ≡ 0 → false ≡ elements_permit k es
-    no_image_lem h = rw (← permit_if, h)
-
-    pub by_digest : (length k.stm ≡ 0 → ⊥) → (d : List ℕ) → d ≡ sha256 k.stm → (r : Bool) → r ≡ any (names_stm d) es → r ≡ elements_permit k es
-    by_digest h d e r named = rw (← permit_if, lt-ltb 0 (length k.stm) (omega arith), ← e) named

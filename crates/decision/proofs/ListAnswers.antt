@@ -2,7 +2,7 @@
 -- permit and its signature verifies.
 use Prim.Native.Nat.{ℕ, ◌+◌, ◌-◌, ◌≤◌}
 use mathlib.Core.Path.{◌≡◌, refl, ap, sym, ◌∙◌}
-use mathlib.Core.Bool.{Bool, true, false, ◌&&◌, and-false, and-true}
+use mathlib.Core.Bool.{Bool, true, false, ◌&&◌, and-true}
 use mathlib.Core.List.{List, ◌++◌, flat_map, append_assoc}
 use native.Mathlib.Omega.{arith}
 use lib.Dec.{leb}
@@ -10,43 +10,17 @@ use lib.ListN.{length, take, length-append}
 use lib.Seq.{take_at}
 use Rattle.field.specs.Number.{bytes}
 use Rattle.rsa.specs.Rsa.{verifies}
-use Rattle.policy_answers.specs.declared.ListAnswer.{ListAnswer}
-use Rattle.policy_answers.specs.declared.ListAnswer.TheVariants as lists
-use Rattle.policy_answers.specs.declared.PartAnswer.TheVariants as parts
+use Rattle.std.specs.Prelude.{Some, None}
+use Rattle.policy_answers.specs.Types.{ListAnswer, PartAnswer}
+use Rattle.policy_answers.specs.declared.ListAt.{ListAt}
 use Rattle.policy_grammar.specs.Grammar.{element_bytes, Signature, Signing, PolicyList, list_bytes}
 use Rattle.policy_grammar.specs.Grammar as Grammar
 use Rattle.policy_answers.specs.Answers.{signing_shown, elements_of}
-use Rattle.policy_answers.specs.Parts.{part_at}
 use Rattle.policy_answers.specs.Seen.{seen_list, list_part}
 use Rattle.policy_reader.proofs.Walk.{list_seen, elements_within, elements_stand}
-use Rattle.decision.specs.Lists.{Criteria, elements_permit, without_last, signed_bytes, signing_holds, permits}
+use Rattle.decision.specs.Lists.{Criteria, elements_permit, signed_bytes, signing_holds, permits}
 use Rattle.decision.specs.Meaning.{SignedUpToSignature}
 use Rattle.decision.specs.Inner.{reached_seen, verified_in, verified_seen, ElementsStand, ListStands}
-
--- A SIGNED LIST, by what is read for it
-
-module _ (l : ListAnswer) (start size version es n c k key signature : ℕ) (q : l ≡ lists.Signed start size version es n c k key signature) where
-  pub counter_read : (least counter : ℕ) → counter ≡ least → leb counter c ≡ reached_seen least l
-  counter_read least counter e = rw (q, e)
-
-  pub signature_read : (s whole part signed modulus : List ℕ) (r : Bool) → whole ≡ part_at s start size → part ≡ part_at s signature k
-      → signed ≡ without_last (length part) whole → modulus ≡ part_at s key k → r ≡ verifies modulus part signed → r ≡ verified_seen (seen_list s l)
-  signature_read s whole part signed modulus r e₁ e₂ e₃ e₄ e = rw q (e ∙ rw (e₃, e₄, e₁, e₂))
-
--- ELEMENTS AND SIGNATURE TOGETHER, by what is known of the elements
-
-module _ (e v : Bool) where
-  pub elements_refuse : false ≡ e → false ≡ (e && v)
-  elements_refuse h = rw (← h)
-
-  pub signature_refuses : v ≡ false → false ≡ (e && v)
-  signature_refuses h = rw (h, and-false e)
-
-  pub signature_decides : true ≡ e → (r : Bool) → r ≡ v → r ≡ (e && v)
-  signature_decides h r is = rw (← h) is
-
-  pub elements_decide : v ≡ true → (r : Bool) → r ≡ e → r ≡ (e && v)
-  elements_decide h r is = rw (h, and-true e) is
 
 -- ITS ELEMENTS
 
@@ -55,19 +29,29 @@ pub record Listed (s : List ℕ) (x : PolicyList) (start n : ℕ) : Type 0 where
   pub within : start + n ≤ length s
   pub elements : ElementsStand (take (start + n) s) start x.elements
 
-elements_shown : (start version n : ℕ) (g : Signing) → elements_of (signing_shown start version n g) ≡ parts.At (start + 8) n
+abbrev part : ℕ → ℕ → PartAnswer
+part start len = Some (record { start = start; len = len })
+
+abbrev start_in : PartAnswer → ℕ
+start_in None = 0
+start_in (Some p) = p.start
+
+abbrev len_in : PartAnswer → ℕ
+len_in None = 0
+len_in (Some p) = p.len
+
+elements_shown : (start version n : ℕ) (g : Signing) → elements_of (signing_shown start version n g) ≡ part (start + 8) n
 elements_shown start version n Grammar.unsigned = refl
 elements_shown start version n (Grammar.signed g) = refl
 
-module _ (s : List ℕ) (l : ListAnswer) (x : PolicyList) (h : ListStands s l x) where
-  elements_at : elements_of l ≡ parts.At (h.at + 8) x.elements_size
+module _ (s : List ℕ) (l : ListAt) (x : PolicyList) (h : ListStands s (Some l) x) where
+  elements_at : elements_of (Some l) ≡ part (h.at + 8) x.elements_size
   elements_at = ap elements_of h.shown ∙ elements_shown h.at x.version x.elements_size x.signing
 
-  pub listed : (start n : ℕ) → elements_of l ≡ parts.At start n → Listed s x start n
-  listed start n q =
-      let e = sym elements_at ∙ q in
-      let e₁ : start ≡ h.at + 8 = cc in
-      let e₂ : n ≡ x.elements_size = cc in
+  pub listed : Listed s x l.elements l.elements_size
+  listed =
+      let e₁ : l.elements ≡ h.at + 8 = ap start_in elements_at in
+      let e₂ : l.elements_size ≡ x.elements_size = ap len_in elements_at in
       record {
         within = omega (arith, elements_within s h.at x h.others h.valid h.stand);
         elements =
@@ -76,10 +60,6 @@ module _ (s : List ℕ) (l : ListAnswer) (x : PolicyList) (h : ListStands s l x)
               stand = rw (e₁, e₂) (elements_stand s h.at x h.others h.valid h.stand);
             };
       }
-
-  -- a list that stands has elements, if only none
-  pub has_elements : elements_of l ≡ parts.Absent → ⊥
-  has_elements q = let e = sym elements_at ∙ q in let z : ◌≡◌ {A = ℕ} 0 1 = cc in omega arith
 
   -- WHETHER IT PERMITS, in the order in which it is tried
 
@@ -94,26 +74,30 @@ module _ (s : List ℕ) (l : ListAnswer) (x : PolicyList) (h : ListStands s l x)
     abbrev elements : Bool
     elements = elements_permit k x.elements
 
+    abbrev reached : ListAnswer → Bool
+    reached None = false
+    reached (Some a) = reached_seen (k.counter i) a.signing
+
     by_signing : (g : Signing)
-        → (signing_holds k i x g && elements) ≡ (reached_seen (k.counter i) (signing_shown h.at x.version x.elements_size g) && (elements && verified_in (list_part x) g))
+        → (signing_holds k i x g && elements) ≡ (reached (signing_shown h.at x.version x.elements_size g) && (elements && verified_in (list_part x) g))
     unfolding signed_bytes
     by_signing Grammar.unsigned = sym (and-true elements)
     by_signing (Grammar.signed g) = reorder (verifies g.key g.signature (signed_bytes x g)) (leb (k.counter i) g.counter) elements
 
-    permits_is : permits k i x ≡ (reached_seen (k.counter i) l && (elements && verified_seen (seen_list s l)))
+    permits_is : permits k i x ≡ (reached_seen (k.counter i) l.signing && (elements && verified_seen (seen_list s (Some l))))
     unfolding permits
     permits_is =
         by_signing x.signing
         ∙ sym
-        (ap (λ (a : ListAnswer). reached_seen (k.counter i) a && (elements && verified_seen (seen_list s a))) h.shown
-        ∙ ap (λ v. reached_seen (k.counter i) (signing_shown h.at x.version x.elements_size x.signing) && (elements && verified_seen v))
+        (ap (λ (a : ListAnswer). reached a && (elements && verified_seen (seen_list s a))) h.shown
+        ∙ ap (λ v. reached (signing_shown h.at x.version x.elements_size x.signing) && (elements && verified_seen v))
         (list_seen s h.at x h.others h.valid h.stand))
 
-    module _ (r : Bool) (is : r ≡ reached_seen (k.counter i) l) where
+    module _ (r : Bool) (is : r ≡ reached_seen (k.counter i) l.signing) where
       pub counter_too_low : r ≡ false → false ≡ permits k i x
       counter_too_low e = sym (permits_is ∙ rw (sym is ∙ e))
 
-      pub counter_reached : r ≡ true → (e : Bool) → e ≡ (elements && verified_seen (seen_list s l)) → e ≡ permits k i x
+      pub counter_reached : r ≡ true → (e : Bool) → e ≡ (elements && verified_seen (seen_list s (Some l))) → e ≡ permits k i x
       counter_reached reached e q = sym (permits_is ∙ rw (sym is ∙ reached, ← q))
 
 -- WHAT IS SIGNED

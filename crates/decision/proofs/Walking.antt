@@ -10,8 +10,9 @@ use lib.Dec.{leb}
 use lib.ListN.{length, get_or, drop}
 use mir.Val.{Fits}
 use mir.Syntax.{w8}
-use Rattle.policy_answers.specs.declared.FileAnswer.{FileAnswer}
-use Rattle.policy_answers.specs.declared.FileAnswer.TheVariants.{Accepted, WrongSize, NotOfGrammar}
+use Rattle.std.specs.Prelude.{Ok, Err}
+use Rattle.policy_answers.specs.Types.{FileAnswer}
+use Rattle.policy_answers.specs.declared.FileFault.TheVariants.{WrongSize, NotOfGrammar}
 use Rattle.policy_grammar.specs.Grammar.{All, list_bytes, ValidList, Reading}
 use Rattle.policy_grammar.specs.Parser.{value_of, is_some}
 use Rattle.policy_grammar.specs.Decode.{reading, accepted, fault_place}
@@ -23,27 +24,22 @@ use Rattle.policy_reader.proofs.Walk.{walk_start}
 use Rattle.decision.specs.Lists.{of_grammar, lists_of}
 
 abbrev pub is_accepted : FileAnswer → Bool
-is_accepted (Accepted n) = true
-is_accepted WrongSize = false
-is_accepted (NotOfGrammar p) = false
+is_accepted (Ok n) = true
+is_accepted (Err f) = false
 
 module _ (s : List ℕ) (f v : FileAnswer) (e : f ≡ file_answer s) (q : f ≡ v) where
   pub grammar_is : of_grammar s ≡ is_accepted v
   unfolding of_grammar
   grammar_is = sym (ap is_accepted (sym q ∙ e) ∙ go (accepted s))
     where
-      refused : (x : Bool) → is_accepted (cond x (NotOfGrammar (fault_place s)) WrongSize) ≡ false
-      refused true = refl
-      refused false = refl
-
       go : (o : Option Reading) → is_accepted (file_shown s o (fault_place s)) ≡ is_some o
-      go none = refused (sized s)
+      go none = refl
       go (some r) = refl
 
   pub place_is : is_accepted v ≡ false → fault_place s ≡ place_of v
   place_is n = sym (ap place_of (sym q ∙ e) ∙ go (accepted s) (sym (ap is_accepted (sym q ∙ e)) ∙ n))
     where
-      refused : (x : Bool) → sized s ≡ x → place_of (cond x (NotOfGrammar (fault_place s)) WrongSize) ≡ fault_place s
+      refused : (x : Bool) → sized s ≡ x → place_of (Err (cond x (NotOfGrammar (fault_place s)) WrongSize)) ≡ fault_place s
       refused true z = refl
       refused false z = sym (fault_outside s z)
 

@@ -14,6 +14,7 @@ use policy_answers::ListAt;
 use policy_reader::FIRST_LIST;
 
 // The lists of a file, and what they are judged by. The digest of the STM image is worked out at most once, and only for a list that could permit.
+#[derive(Drop)]
 pub(crate) struct FileLists<'a> {
     file: &'a [u8],
     criteria: LaunchCriteria<'a>,
@@ -77,13 +78,13 @@ impl<'a> FileLists<'a> {
 }
 
 // The number of the lowest list of a file of the grammar that permits, none where none does.
-fn lowest_in(file: &[u8], k: LaunchCriteria) -> Option<u32>
+fn lowest_in(file: &[u8], k: &LaunchCriteria) -> Option<u32>
     requires { of_grammar file.now ≡ true }
-    ensures { result ≡ number_if (lowest_permitting file.now (criteria_of k)) }
+    ensures { result ≡ number_if (lowest_permitting file.now (criteria_of k.now)) }
 {
     let mut lists = FileLists {
         file,
-        criteria: k,
+        criteria: *k,
         stm_digest: None,
     };
     let mut at = FIRST_LIST;
@@ -100,8 +101,8 @@ fn lowest_in(file: &[u8], k: LaunchCriteria) -> Option<u32>
 }
 
 // The number of the lowest list that permits; none where none does, as in a file that is not of the grammar.
-pub fn lowest_permitting(file: &[u8], k: LaunchCriteria) -> Option<u32>
-    ensures { result ≡ number_if (lowest_permitting file.now (criteria_of k)) }
+pub fn lowest_permitting(file: &[u8], k: &LaunchCriteria) -> Option<u32>
+    ensures { result ≡ number_if (lowest_permitting file.now (criteria_of k.now)) }
 {
     match policy_reader::read(file) {
         Ok(_) => lowest_in(file, k),

@@ -21,7 +21,7 @@ fn by_file(lent: &Lent, file: &[u8], f: Found) -> Result<Permission, Refused>
         stm: lent.stm,
         policy_record: lent.policy_record,
     };
-    let list = decision::lowest_permitting(file, criteria);
+    let list = decision::lowest_permitting(file, &criteria);
     if list.is_none() {
         return Err(Refused {
             refusal: Refusal::NoList,

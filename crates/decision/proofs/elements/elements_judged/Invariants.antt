@@ -1,4 +1,4 @@
-use Prim.Native.Nat.{ℕ, ◌-◌}
+use Prim.Native.Nat.{◌-◌}
 use mathlib.Core.List.{List}
 use lib.ListN.{length}
 use Rattle.policy_grammar.specs.Grammar.{Element}
@@ -11,7 +11,7 @@ use Rattle.decision.proofs.elements.elements_judged.Given as goal
 
 abbrev pub invariant-loop-at : goal.invariant-loop-at
 invariant-loop-at l =
-    (es : List Element) (image r : List ℕ) → ElementsStand l.t l.start es → Left kinds.element l.t l.at (Judging (criteria_of l.k image r) es l.named l.holds_stm)
+    (es : List Element) → ElementsStand l.t l.start es → Left kinds.element l.t l.at (Judging (criteria_of l.k) es l.named l.holds_stm)
 
 abbrev pub decreases-loop-at : goal.decreases-loop-at
 decreases-loop-at l = length l.t - l.at

@@ -1,17 +1,16 @@
 -- `named` meets its contract. The invariant: the digest is one of all exactly where it is one of those that are left.
-use mathlib.Core.Path.{refl}
-use Rattle.decision.proofs.Digests.{first_is, first_is_not, none_left}
+use Rattle.decision.proofs.Digests.{named_start, first_is, first_is_not, none_left}
 use borrow.Author.Rules.{rules}
 use Rattle.decision.proofs.elements.named.Goals as goal
 
-pub loop-left-init : goal.loop-left-init
-loop-left-init c = (search rules, search rules, refl)
+pub loop-k-init : goal.loop-k-init
+loop-k-init c = named_start _ _ _ _
 
 pub returns-then-marked : goal.returns-then-marked
 returns-then-marked c = search (rules, first_is)
 
-pub loop-left-preserved : goal.loop-left-preserved
-loop-left-preserved c = (search rules, search rules, search (rules, first_is_not))
+pub loop-k-preserved : goal.loop-k-preserved
+loop-k-preserved c = search (rules, first_is_not)
 
 pub returns : goal.returns
 returns c = search (rules, none_left)

@@ -4,10 +4,7 @@ use Rattle.decision.proofs.Hashing.{hash_of_none}
 use Rattle.decision.proofs.measures.policy_hash.Goals as goal
 
 pub hash-requires : goal.hash-requires
-hash-requires c = grammar_is _ _ _ c.read.ensures.0 c.in-Accepted.is
+hash-requires c = grammar_is _ _ _ c.read.ensures.0 c.in-Ok.is
 
-pub returns-in-WrongSize : goal.returns-in-WrongSize
-returns-in-WrongSize c = hash_of_none _ _ (grammar_is _ _ _ c.read.ensures.0 c.in-WrongSize.is) c.digest.ensures
-
-pub returns-in-NotOfGrammar : goal.returns-in-NotOfGrammar
-returns-in-NotOfGrammar c = hash_of_none _ _ (grammar_is _ _ _ c.read.ensures.0 c.in-NotOfGrammar.is) c.digest-in-NotOfGrammar.ensures
+pub returns-in-Err : goal.returns-in-Err
+returns-in-Err c = hash_of_none _ _ (grammar_is _ _ _ c.read.ensures.0 c.in-Err.is) c.digest.ensures

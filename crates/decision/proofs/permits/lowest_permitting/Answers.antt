@@ -4,10 +4,7 @@ use Rattle.decision.proofs.Lowest.{none_permits}
 use Rattle.decision.proofs.permits.lowest_permitting.Goals as goal
 
 pub lowest_in-requires : goal.lowest_in-requires
-lowest_in-requires c = grammar_is _ _ _ c.read.ensures.0 c.in-Accepted.is
+lowest_in-requires c = grammar_is _ _ _ c.read.ensures.0 c.in-Ok.is
 
-pub returns-in-WrongSize : goal.returns-in-WrongSize
-returns-in-WrongSize c = none_permits _ _ (grammar_is _ _ _ c.read.ensures.0 c.in-WrongSize.is)
-
-pub returns-in-NotOfGrammar : goal.returns-in-NotOfGrammar
-returns-in-NotOfGrammar c = none_permits _ _ (grammar_is _ _ _ c.read.ensures.0 c.in-NotOfGrammar.is)
+pub returns-in-Err : goal.returns-in-Err
+returns-in-Err c = none_permits _ _ (grammar_is _ _ _ c.read.ensures.0 c.in-Err.is)

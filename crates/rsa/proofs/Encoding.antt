@@ -1,17 +1,12 @@
 -- The bytes of the encoded message by their places, its length, and the size of its number.
-use Prim.Native.Nat.{ℕ, suc, ◌+◌, ◌*◌, ◌-◌, ◌/◌, ◌^◌, ◌≤◌, ◌<◌}
-use mathlib.Core.Path.{◌≡◌, refl, ap, sym, ◌∙◌}
-use mathlib.Core.List.{List, ◌∷◌, ◌++◌, reverse}
-use native.Mathlib.Omega.{arith}
-use lib.Dec.{lit<}
-use lib.ListN.{length, get_or, replicate, length-append, length-replicate, get_or-replicate, length-reverse, get_or-append}
-use lib.Pow.{pow-add}
-use lib.Seq.{get_or-append-add}
+use Rattle.std.proofs.Common.{◌≡◌, ℕ, suc, ◌+◌, ◌*◌, ◌-◌, ◌/◌, ◌^◌, ◌≤◌, List, [], ◌∷◌, ◌++◌, reverse, length, get_or, take, drop, set, replicate, sym, refl, ap, ◌∙◌, ap₂, append_assoc, le_of_eq, lit<, arith, length-append, length-set, length-drop, length-take-le, take_all, pow-add}
+use Rattle.std.proofs.lemmas.List.{length-replicate, take-replicate, take_more_set, get_or-reverse, length-reverse}
+use Rattle.std.proofs.lemmas.Slice.{take-put_mid}
+use borrow.Rule.Slice.PartMut.{put_mid, same_len_mid}
 use Rattle.field.specs.Number.{Bytes}
 use Rattle.rsa.specs.Words.{power}
 use Rattle.rsa.specs.Rsa.{os2ip, digest_info_prefix}
 use Rattle.rsa.specs.Inner.{encoded_digest}
-use Rattle.rsa.proofs.Backwards.{get_d_reverse}
 use Rattle.rsa.proofs.Bytes.{number_at, power_bytes}
 use Rattle.rsa.proofs.Strings.{bytes_cons, bytes_append, bytes_replicate, bytes_tested}
 use Rattle.rsa.proofs.Numerals.{little_reverse}
@@ -44,43 +39,47 @@ bytes_encoded k h b =
     in
     bytes_cons 0 (1 ∷ (padding k h ++ (0 ∷ t))) (lit< tt) (bytes_cons 1 (padding k h ++ (0 ∷ t)) (lit< tt) rest)
 
-module _ (k : ℕ) (h : List ℕ) (i : ℕ) where
-  pub at_first : i ≡ 0 → 0 ≡ get_or (encoded_digest k h) i 0
+-- a list keeps its length where as many elements as it has from a place on are written
+kept : {n : ℕ} (a : ℕ) (xs ys : List ℕ) → a + n ≤ length xs → length ys ≡ n → length (put_mid a n xs ys) ≡ length xs
+kept {n} a xs ys le e =
+    same_len_mid a n xs ys (e ∙ sym (length-take-le n (drop a xs) (omega (arith, length-drop a xs))))
+
+first_two : (m n : ℕ) (l : List ℕ) → l ≡ replicate (suc (suc m)) 255 → n ≤ m → take (suc (suc n)) (set (set l 0 0) 1 1) ≡ 0 ∷ 1 ∷ replicate n 255
+first_two m n l e le = rw e (ap (λ (x : List ℕ). 0 ∷ 1 ∷ x) (take-replicate n m 255 le))
+
+-- the encoded message, written part by part over bytes 0xff
+module _ (k : ℕ) (h : List ℕ) (long : length h ≡ 32) (room : 54 ≤ k) where
+  front : (l : List ℕ) → l ≡ replicate k 255 → take (k - 52) (set (set l 0 0) 1 1) ≡ 0 ∷ 1 ∷ replicate (k - 54) 255
+  front l e =
+      let a : k ≡ suc (suc (k - 2)) = omega arith in
+      let b : k - 52 ≡ suc (suc (k - 54)) = omega arith in
+      ap (λ (n : ℕ). take n (set (set l 0 0) 1 1)) b ∙ first_two (k - 2) (k - 54) l (e ∙ ap (λ (n : ℕ). replicate n 255) a) (omega arith)
+
+  pub written : (l info digest : List ℕ) (m n : ℕ) → l ≡ replicate k 255 → info ≡ digest_info_prefix → digest ≡ h → m ≡ 19 → n ≡ 32
+      → put_mid (k - 32) n (put_mid (k - 51) m (set (set (set l 0 0) 1 1) (k - 52) 0) info) digest ≡ encoded_digest k h
   unfolding encoded_digest
-  at_first e = rw e
+  written l info digest m n el ei ed em en =
+      let two : List ℕ = set (set l 0 0) 1 1 in
+      let three : List ℕ = set two (k - 52) 0 in
+      let four : List ℕ = put_mid (k - 51) m three info in
+      let five : List ℕ = put_mid (k - 32) n four digest in
+      let size2 : length two ≡ k = simp length-set (ap length el ∙ length-replicate k 255) in
+      let size3 : length three ≡ k = length-set two (k - 52) 0 ∙ size2 in
+      let size4 : length four ≡ k = kept (k - 51) three info (omega arith) (ap length ei ∙ sym em) ∙ size3 in
+      let size5 : length five ≡ k = kept (k - 32) four digest (omega arith) (ap length ed ∙ long ∙ sym en) ∙ size4 in
+      let one : k - 51 ≡ k - 52 + 1 = omega arith in
+      let p : k - 54 ≡ k - length (digest_info_prefix ++ h) - 3 = sym (padded k h long) in
+      sym (take_all k five (le_of_eq size5))
+      ∙ take-put_mid (k - 32) n four digest k (omega (arith, ap length ed)) (omega arith)
+      ∙ ap₂ ◌++◌
+      (take-put_mid (k - 51) m three info (k - 32) (omega (arith, ap length ei)) (omega arith)
+      ∙ ap₂ ◌++◌ (ap (λ (j : ℕ). take j three) one ∙ take_more_set two (k - 52) 0 (omega arith) ∙ ap (λ (x : List ℕ). x ++ 0 ∷ []) (front l el)) ei)
+      ed
+      ∙ simp append_assoc (ap (λ (j : ℕ). 0 ∷ 1 ∷ (replicate j 255 ++ (0 ∷ (digest_info_prefix ++ h)))) p)
 
-  pub at_second : i ≡ 1 → 1 ≡ get_or (encoded_digest k h) i 0
-  unfolding encoded_digest
-  at_second e = rw e
-
-  module _ (long : length h ≡ 32) where
-    pub at_padding : (i ≡ 0 → ⊥) → (i ≡ 1 → ⊥) → i < k - 52 → 255 ≡ get_or (encoded_digest k h) i 0
-    unfolding encoded_digest
-    at_padding a b l =
-        let e : i ≡ suc (suc (i - 2)) = omega arith in
-        rw e
-        (sym
-        (get_or-append (padding k h) (0x00 ∷ (digest_info_prefix ++ h)) 0 (i - 2) (rw (length_padding k h long) (omega arith))
-        ∙ get_or-replicate {A = ℕ} (k - length (digest_info_prefix ++ h) - 3) (i - 2) 0xff 0 (rw (padded k h long) (omega arith))))
-
-    -- past the padding
-    behind : (m : ℕ) → 54 ≤ k → i ≡ k - 52 + m → get_or (encoded_digest k h) i 0 ≡ get_or (0x00 ∷ (digest_info_prefix ++ h)) m 0
-    unfolding encoded_digest
-    behind m l e =
-        let f : i ≡ suc (suc (length (padding k h) + m)) = omega (arith, length_padding k h long) in
-        rw f (get_or-append-add (padding k h) (0x00 ∷ (digest_info_prefix ++ h)) m 0)
-
-    pub at_end_of_padding : 54 ≤ k → i ≡ k - 52 → 0 ≡ get_or (encoded_digest k h) i 0
-    at_end_of_padding l e = sym (behind 0 l (omega arith))
-
-    pub at_info : 54 ≤ k → (i ≡ k - 52 → ⊥) → k - 52 ≤ i → i < k - 32 → get_or digest_info_prefix (i - (k - 51)) 0 ≡ get_or (encoded_digest k h) i 0
-    at_info l n a b = sym (behind (suc (i - (k - 51))) l (omega arith) ∙ get_or-append digest_info_prefix h 0 (i - (k - 51)) (omega arith))
-
-    pub at_digest : 54 ≤ k → k - 32 ≤ i → get_or h (i - (k - 32)) 0 ≡ get_or (encoded_digest k h) i 0
-    at_digest l a = sym (behind (suc (19 + (i - (k - 32)))) l (omega arith) ∙ get_or-append-add digest_info_prefix h (i - (k - 32)) 0)
-
-pub info_place : (k i : ℕ) → i < k - 32 → i - (k - 51) < 19
-info_place k i h = omega arith
+second : (k : ℕ) (h : List ℕ) → get_or (encoded_digest k h) 1 0 ≡ 1
+unfolding encoded_digest
+second k h = refl
 
 -- the second byte of EM makes its number a number of all the words
 pub encoded_large : (k : ℕ) (h : List ℕ) → length h ≡ 32 → 54 ≤ k → 4 * (k / 4) ≡ k → power (k / 4) ≤ 65536 * os2ip (encoded_digest k h)
@@ -89,7 +88,7 @@ encoded_large k h e l m =
     let r : length (reverse (encoded_digest k h)) ≡ k = length-reverse (encoded_digest k h) ∙ n in
     let i : length (encoded_digest k h) - 1 - (k - 2) ≡ 1 = omega arith in
     let one : get_or (reverse (encoded_digest k h)) (k - 2) 0 ≡ 1 =
-    get_d_reverse (encoded_digest k h) (k - 2) (omega arith) ∙ sym (at_second k h (length (encoded_digest k h) - 1 - (k - 2)) i)
+    get_or-reverse (encoded_digest k h) (k - 2) 0 (omega arith) ∙ ap (λ (j : ℕ). get_or (encoded_digest k h) j 0) i ∙ second k h
     in
     let f = number_at (length (reverse (encoded_digest k h))) (k - 2) (reverse (encoded_digest k h)) (omega arith) in
     let g : 256 ^ (k - 2) ≤ os2ip (encoded_digest k h) = omega (arith, rw one at f, little_reverse (encoded_digest k h)) in

@@ -8,7 +8,6 @@ pub mod Steps
 pub mod Products
 pub mod Strings
 pub mod Numerals
-pub mod Backwards
 pub mod Digest
 pub mod Encoding
 pub mod Matches

@@ -6,8 +6,10 @@ use native.Mathlib.Nat.{pow-suc, add-zero, mul-zero, div-add-mod}
 use native.Mathlib.Numerals.{add-one}
 use native.Mathlib.Omega.{arith}
 use lib.Dec.{lit<}
-use lib.ListN.{length, take, drop, get_or, set, length-set}
+use lib.ListN.{length, take, drop, get_or, set, replicate, length-set}
 use lib.Seq.{take_all, take-set-le, drop-set-lt, drop-drop, get_or-drop, get_or-set_same}
+use Rattle.std.proofs.Common.{le_refl, length-take-le, take_at}
+use Rattle.std.specs.List.{copy_within}
 use Rattle.rsa.specs.Words.{value, power}
 
 -- every number of the list is a word; past the list's end `get_or` gives 0
@@ -91,3 +93,23 @@ high_word l h e =
     let f = value_set l (length l - 1) 65536 (omega arith) in
     let z : power (length l - 1) * get_or l (length l - 1) 0 ≡ 0 = ap (λ (w : ℕ). power (length l - 1) * w) (word_zero l e (length l - 1)) ∙ mul-zero _ in
     rw p (omega (arith, f, z))
+
+value_zeros : (n : ℕ) → value (replicate n 0) ≡ 0
+unfolding value
+value_zeros zero = refl
+value_zeros (suc n) = rw (value_zeros n)
+
+pub zeros : {l : List ℕ} (n : ℕ) → l ≡ replicate n 0 → value l ≡ 0
+zeros n e = ap value e ∙ value_zeros n
+
+-- the words one place further down, and a new highest one
+pub shifted : (u s : List ℕ) (top : ℕ) → 0 < length u → length s ≡ length u → s ≡ copy_within u 1 (length u) 0
+    → 2 ^ 32 * value (set s (length u - 1) top) + get_or u 0 0 ≡ value u + power (length u) * top
+unfolding value
+shifted [] s top h l e = absurd (omega arith)
+shifted (x ∷ w) s top h l e =
+    let j : length (x ∷ w) - 1 ≡ length w = omega arith in
+    let moved : take (length w) s ≡ w =
+    ap (take (length w)) (rw j at e) ∙ take_at (take (length w) w) _ (length w) (length-take-le (length w) w (le_refl (length w))) ∙ take_all (length w) w (le_refl (length w)) in
+    let whole_words = whole (set s (length w) top) (length w + 1) (rw length-set (omega arith)) in
+    rw (j, ← whole_words, prefix_set s (length w) top (omega arith), moved, power_suc (length w)) (omega arith)

@@ -13,6 +13,7 @@ use Rattle.field.specs.Number.{Bytes}
 use Rattle.field.specs.Field.{same}
 use Rattle.field.proofs.Laws.{number_below, same_exactly}
 use Rattle.sha256.specs.Message.{sha256}
+use Rattle.sha256.proofs.Parts.{length_sha256}
 use Rattle.rsa.specs.Rsa.{i2osp, os2ip, rsavp1, encode, rsassa_verify, turned, verifies, is_key_size}
 use Rattle.rsa.specs.Meaning.{VerifiesExactly}
 use Rattle.rsa.specs.Inner.{little_endian, encoded_digest, matches}
@@ -52,16 +53,15 @@ module _ (key signature message : List ℕ) where
   other_length n =
       rw (turned_length signature, ne_eqb (length signature) (length key) n, and-false (eqb (os2ip (turned key) % 2) 1), and-false (is_key_size (length key)))
 
-  pub verified : (digest : List ℕ) (r : Bool) → Bytes key → is_key_size (length key) ≡ true → length signature ≡ length key → length digest ≡ 32
-      → digest ≡ sha256 message
-      → r ≡ matches (little_endian key) (little_endian signature) (os2ip (encoded_digest (length key) digest)) → r ≡ verifies key signature message
+  pub verified : (k : ℕ) (r : Bool) → Bytes key → length key ≡ k → is_key_size k ≡ true → length signature ≡ length key
+      → r ≡ matches (little_endian key) (little_endian signature) (os2ip (encoded_digest k (sha256 message))) → r ≡ verifies key signature message
   unfolding verifies is_key_size rsassa_verify matches
-  verified digest r b known l z d e =
-      let k : ℕ = length key in
-      let c = compared (little_endian key) k (little_endian signature) message (number_below k key b) (key_room k known).1.0 (rw d at z) in
+  verified k r b size known l e =
+      let known_length : is_key_size (length key) ≡ true = ap is_key_size size ∙ known in
+      let c = compared (little_endian key) (length key) (little_endian signature) message (number_below (length key) key b) (key_room (length key) known_length) (length_sha256 message) in
       e
-      ∙ ap (λ (h : List ℕ). matches (little_endian key) (little_endian signature) (os2ip (encoded_digest k h))) d
-      ∙ rw (known, turned_number key, turned_number signature, turned_length signature, eq-eqb (length signature) k l, c)
+      ∙ ap (λ (n : ℕ). matches (little_endian key) (little_endian signature) (os2ip (encoded_digest n (sha256 message)))) (sym size)
+      ∙ rw (known_length, turned_number key, turned_number signature, turned_length signature, eq-eqb (length signature) (length key) l, c)
 
 -- WHAT IT SAYS
 

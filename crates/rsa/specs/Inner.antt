@@ -1,8 +1,8 @@
 -- What the contracts of functions cite that are not public: a string with the lowest byte first as a number, the encoded message of a digest,
 -- the comparison of the numbers, and the lengths of the strings and the words.
-use Rattle.std.specs.Prelude.{ℕ, ◌*◌, ◌%◌, ◌≤◌, ◌<◌, ◌≡◌, Bool, true, ◌&&◌, List, ◌++◌, ltb, eqb, length}
+use Rattle.std.specs.Prelude.{ℕ, ◌%◌, ◌<◌, ◌≡◌, Bool, ◌&&◌, List, ◌++◌, ltb, eqb, length}
 use Rattle.field.specs.Number.{number}
-use Rattle.rsa.specs.Rsa.{rsavp1, digest_info_prefix, encoded, is_key_size}
+use Rattle.rsa.specs.Rsa.{rsavp1, digest_info_prefix, encoded}
 
 -- the number of a string with the lowest byte first
 abbrev pub little_endian : List ℕ → ℕ
@@ -23,24 +23,3 @@ pub record Room (n s m x y : ℕ) : Type 0 where
   pub message : m ≡ n
   pub first : x ≡ n
   pub second : y ≡ n
-
--- strings of four bytes a word
-pub record FourBytes (words key signature message : ℕ) : Type 0 where
-  pub modulus : key ≡ 4 * words
-  pub number : signature ≡ 4 * words
-  pub encoding : message ≡ 4 * words
-
--- the lengths in bytes of a key, a signature and a digest
-pub record Lengths (key signature digest : ℕ) : Type 0 where
-  pub known : is_key_size key ≡ true
-  pub same : signature ≡ key
-  pub hash : digest ≡ 32
-
--- scratch for the largest key: bytes, and words for five numbers
-pub record Scratch (em n s m x y : ℕ) : Type 0 where
-  pub bytes : 384 ≤ em
-  pub modulus : 96 ≤ n
-  pub signature : 96 ≤ s
-  pub message : 96 ≤ m
-  pub first : 96 ≤ x
-  pub second : 96 ≤ y

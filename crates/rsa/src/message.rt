@@ -1,5 +1,5 @@
 // The encoded message: EMSA-PKCS1-v1_5, RFC 8017, section 9.2.
-ghost use Rattle.std.specs.Prelude.{◌≡◌, reverse, ◌≤◌, ◌<◌, length, get_or};
+ghost use Rattle.std.specs.Prelude.{◌≡◌, reverse, ◌≤◌, length};
 ghost use Rattle.rsa.specs.Inner.{encoded_digest};
 
 // The DER encoding of DigestInfo for SHA-256 up to the digest (note 1).
@@ -15,38 +15,17 @@ const FROM_T: usize = 51;
 
 const DIGEST: usize = 32;
 
-// Byte i of the encoded message of k bytes.
-fn byte(digest: &[u8], k: usize, i: usize) -> u8
-    requires { (length digest.now ≡ 32) × ((54 ≤ k) × (i < k)) }
-    ensures { result ≡ get_or (encoded_digest k digest.now) i 0 }
-{
-    if i == 0 {
-        return 0;
-    }
-    if i == 1 {
-        return 1;
-    }
-    if i < k - FROM_ZERO {
-        return 255;
-    }
-    if i == k - FROM_ZERO {
-        return 0;
-    }
-    if i < k - DIGEST {
-        return DIGEST_INFO[i - (k - FROM_T)];
-    }
-    digest[i - (k - DIGEST)]
-}
-
 // The encoded message, its last byte first.
 pub(crate) fn encode(em: &mut [u8], digest: &[u8])
     requires { (length digest.now ≡ 32) × (54 ≤ length em.old) }
     ensures { em.new ≡ reverse (encoded_digest (length em.old) digest.now) }
 {
     let k = em.len();
-    let mut i = 0;
-    while i < k {
-        em[i] = byte(digest, k, k - 1 - i);
-        i += 1;
-    }
+    em.fill(0xff);
+    em[0] = 0;
+    em[1] = 1;
+    em[k - FROM_ZERO] = 0;
+    em[k - FROM_T..k - DIGEST].copy_from_slice(&DIGEST_INFO);
+    em[k - DIGEST..].copy_from_slice(digest);
+    em.reverse();
 }

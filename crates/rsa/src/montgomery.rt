@@ -4,7 +4,7 @@ ghost use Rattle.rsa.specs.Words.{value};
 ghost use Rattle.rsa.specs.Rsa.{rsavp1};
 ghost use Rattle.rsa.specs.Montgomery.{radix, extended, Operands, Stepped, Product, Fourth, Lifted, Base};
 
-use crate::words::{accumulated, clear, high, high_bit, less, low, row, shift, subtract};
+use crate::words::{accumulated, high, high_bit, less, low, row, shift, subtract};
 
 // A step of Newton's iteration: n * r + 1 becomes its square, modulo 2^32.
 fn newton(n: u32, r: u32) -> u32
@@ -54,10 +54,8 @@ fn double_times(t: &mut [u32], n: &[u32], count: usize)
     requires { (length t.old ≡ length n.now) × (value t.old < value n.now) }
     ensures { value t.new ≡ 2 ^ count * value t.old % value n.now }
 {
-    let mut k = 0;
-    while k < count {
+    for _k in 0..count {
         double(t, n);
-        k += 1;
     }
 }
 
@@ -79,13 +77,11 @@ fn multiply(t: &mut [u32], a: &[u32], b: &[u32], n: &[u32], r: u32)
     requires { Operands t.old b.now n.now r × (length a.now ≡ length n.now) }
     ensures { Product n.now t.new a.now b.now }
 {
-    clear(t);
+    t.fill(0);
     let mut top: u32 = 0;
-    let mut i = 0;
-    while i < a.len() {
-        let next = step(t, top, a[i], b, n, r);
+    for x in a {
+        let next = step(t, top, *x, b, n, r);
         top = next;
-        i += 1;
     }
     reduce(t, top, n);
 }
@@ -118,10 +114,8 @@ pub(crate) fn raise(y: &mut [u32], x: &mut [u32], s: &[u32], n: &[u32])
     let r = inverse(n[0]);
     square_radix(y, x, n, r);
     multiply(x, y, s, n, r);
-    let mut k: u32 = 0;
-    while k < 8 {
+    for _k in 0..8usize {
         square_twice(x, y, n, r);
-        k += 1;
     }
     multiply(y, x, s, n, r);
 }

@@ -1,32 +1,19 @@
 -- `verify` meets its contract: it refuses lengths that are not right, and hands every other to `checked`.
-use mathlib.Core.Path.{sym, ◌∙◌}
-use lib.Dec.{lit≤}
+use Rattle.std.proofs.Common.{rules}
+use Rattle.rsa.proofs.Parts.{first_size, second_size, no_size}
 use Rattle.rsa.proofs.Verified.{unknown, other_length, verified}
-use borrow.Author.Rules.{rules}
 use Rattle.rsa.proofs.verify.Goals as goal
 
-pub returns-then-not-known_length : goal.returns-then-not-known_length
-returns-then-not-known_length c = unknown _ _ _ (sym c.known_length.ensures ∙ c.if-not-known_length.true)
+pub returns-then-signature-key : goal.returns-then-signature-key
+returns-then-signature-key c = other_length _ _ _ c.if-signature-key.true
 
-pub returns-then-signature-k : goal.returns-then-signature-k
-returns-then-signature-k c = other_length _ _ _ c.if-signature-k.true
+pub returns-in-256 : goal.returns-in-256
+returns-in-256 c =
+    verified c.args.key.now c.args.signature.now c.args.message.now 256 _ (λ i. (c.type_inv.key i).fits) c.in-256.is first_size c.if-signature-key.false c.checked.ensures
 
-pub checked-requires : goal.checked-requires
-checked-requires c = record {
-  lengths = record {
-    known = sym c.known_length.ensures ∙ c.if-not-known_length.false;
-    same = c.if-signature-k.false;
-    hash = sym (search rules);
-  };
-  scratch = record { bytes = lit≤ tt; modulus = lit≤ tt; signature = lit≤ tt; message = lit≤ tt; first = lit≤ tt; second = lit≤ tt };
-}
+pub returns-in-384 : goal.returns-in-384
+returns-in-384 c =
+    verified c.args.key.now c.args.signature.now c.args.message.now 384 _ (λ i. (c.type_inv.key i).fits) c.in-384.is second_size c.if-signature-key.false c.checked-in-384.ensures
 
-pub returns : goal.returns
-returns c =
-    let args = c.args in
-    verified args.key.now args.signature.now args.message.now _ _ (λ i. (c.type_inv.key i).fits)
-    (sym c.known_length.ensures ∙ c.if-not-known_length.false)
-    c.if-signature-k.false
-    (sym (search rules))
-    c.digest-digest.ensures
-    c.checked.ensures
+pub returns-in_default : goal.returns-in_default
+returns-in_default c = unknown _ _ _ (no_size _ (search rules) (search rules))

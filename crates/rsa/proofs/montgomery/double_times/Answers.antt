@@ -12,14 +12,14 @@ loop-k-init c =
 
 pub double-requires : goal.double-requires
 double-requires c =
-    (c.loop-k.invariant.1.0, remainder_below _ (2 ^ c.loop-k.k * value c.args.t.now) _ c.loop-k.invariant.1.1 (omega (arith, c.requires.1)))
+    (c.loop-k.invariant.1.0, remainder_below _ (2 ^ c.loop-k._k * value c.args.t.now) _ c.loop-k.invariant.1.1 (omega (arith, c.requires.1)))
 
 pub loop-k-preserved : goal.loop-k-preserved
 loop-k-preserved c = (
   omega arith,
   (
     c.double.auto.t ∙ c.loop-k.invariant.1.0,
-    times_next c.loop-k.k (value c.args.t.now) (value c.args.n.now) c.loop-k.invariant.1.1 c.double.ensures,
+    times_next c.loop-k._k (value c.args.t.now) (value c.args.n.now) c.loop-k.invariant.1.1 c.double.ensures,
   ),
 )
 
@@ -29,5 +29,5 @@ shape_of-t c =
 
 pub returns : goal.returns
 returns c =
-    let e : c.loop-k.k ≡ c.args.count = omega arith in
+    let e : c.loop-k._k ≡ c.args.count = omega arith in
     rw e at c.loop-k.invariant.1.1

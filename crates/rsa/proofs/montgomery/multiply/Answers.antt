@@ -1,42 +1,43 @@
 -- `multiply` meets its contract: after i turns t is, times 2^(32 * i) and modulo n, the product of b with the first i words of a.
 use native.Mathlib.Omega.{arith}
+use Rattle.rsa.proofs.Values.{zeros}
 use Rattle.rsa.proofs.Products.{product_start, product_next, product_end}
 use mathlib.Core.Path.{sym, ◌∙◌}
 use Rattle.rsa.proofs.montgomery.multiply.Goals as goal
 
-pub loop-i-init : goal.loop-i-init
-loop-i-init c = (
-  (omega arith, c.clear.auto.t ∙ c.requires.0.room),
-  product_start c.args.n.now c.clear.new.t c.args.b.now c.clear.ensures c.requires.0.below,
+pub loop-x-init : goal.loop-x-init
+loop-x-init c = (
+  c.fill.auto.self ∙ c.requires.0.room,
+  product_start c.args.n.now c.fill.new.self c.args.b.now (zeros _ (c.fill.ensures.after (λ y e. e))) c.requires.0.below,
 )
 
 pub step-next-requires : goal.step-next-requires
 step-next-requires c =
-    let b = c.loop-i in
+    let b = c.loop-x in
     let o = c.requires.0 in
-    (record { room = b.invariant.0.1; factor = o.factor; some = o.some; below = o.below; negative = o.negative }, b.invariant.1.0)
+    (record { room = b.invariant.0; factor = o.factor; some = o.some; below = o.below; negative = o.negative }, b.invariant.1.0)
 
-pub loop-i-preserved : goal.loop-i-preserved
-loop-i-preserved c =
-    let b = c.loop-i in
+pub loop-x-preserved : goal.loop-x-preserved
+loop-x-preserved c =
+    let b = c.loop-x in
     let next = c.step-next in (
-      (omega (arith, b.invariant.0.0, c.loop-i-test.true), next.auto.t ∙ b.invariant.0.1),
+      next.auto.t ∙ b.invariant.0,
       (
         next.ensures.below,
-        product_next c.args.n.now b.t next.new.t c.args.a.now c.args.b.now b.top next.result b.i
-            c.loop-i-test.true b.invariant.1.1 next.ensures,
+        product_next c.args.n.now b.t next.new.t c.args.a.now c.args.b.now b.top next.result b.x-index
+            c.loop-x-test.true b.invariant.1.1 next.ensures,
       ),
     )
 
 pub reduce-requires : goal.reduce-requires
-reduce-requires c = (c.loop-i.invariant.0.1, c.loop-i.invariant.1.0)
+reduce-requires c = (c.loop-x.invariant.0, c.loop-x.invariant.1.0)
 
 pub shape_of-t : goal.shape_of-t
 shape_of-t c =
-    c.reduce.auto.t ∙ c.loop-i.invariant.0.1 ∙ sym c.requires.0.room
+    c.reduce.auto.t ∙ c.loop-x.invariant.0 ∙ sym c.requires.0.room
 
 pub returns : goal.returns
 returns c =
-    let b = c.loop-i in
-    product_end c.args.n.now b.t c.reduce.new.t c.args.a.now c.args.b.now b.top b.i (omega (arith, c.requires.0.below))
-    c.requires.1 c.loop-i-test.false b.invariant.0.0 b.invariant.1.1 c.reduce.ensures
+    let b = c.loop-x in
+    product_end c.args.n.now b.t c.reduce.new.t c.args.a.now c.args.b.now b.top b.x-index (omega (arith, c.requires.0.below))
+    c.requires.1 c.loop-x-test.false (omega arith) b.invariant.1.1 c.reduce.ensures

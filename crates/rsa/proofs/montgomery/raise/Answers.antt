@@ -50,7 +50,7 @@ loop-k-preserved c =
       omega (arith, c.loop-k-test.true),
       (
         (t.auto.y ∙ b.invariant.1.0.0, t.auto.x ∙ b.invariant.1.0.1),
-        (t.ensures.0, raise_next c.args.n.now (value b.x) (value t.new.x) (value c.args.s.now) b.k b.invariant.1.1.1 t.ensures.1),
+        (t.ensures.0, raise_next c.args.n.now (value b.x) (value t.new.x) (value c.args.s.now) b._k b.invariant.1.1.1 t.ensures.1),
       ),
     )
 
@@ -74,4 +74,4 @@ pub returns : goal.returns
 returns c =
     let b = c.loop-k in
     let m = c.multiply-2 in
-    raise_end c.args.n.now b.x m.new.t c.args.s.now b.k c.requires.odd b.invariant.0 c.loop-k-test.false b.invariant.1.1.1 m.ensures
+    raise_end c.args.n.now b.x m.new.t c.args.s.now b._k c.requires.odd b.invariant.0 c.loop-k-test.false b.invariant.1.1.1 m.ensures

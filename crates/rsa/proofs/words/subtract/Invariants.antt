@@ -1,12 +1,9 @@
-use Prim.Native.Nat.{◌+◌, ◌*◌, ◌-◌}
+use Prim.Native.Nat.{◌+◌, ◌*◌}
 use mathlib.Core.Path.{◌≡◌}
-use lib.ListN.{length, take}
+use lib.ListN.{take}
 use Rattle.rsa.specs.Words.{value, power}
 use Rattle.rsa.proofs.Loops.{Going}
 use Rattle.rsa.proofs.words.subtract.Given as goal
 
 abbrev pub invariant-loop-j : goal.invariant-loop-j
 invariant-loop-j l = Going l.initial.t l.t l.j × ((value (take l.j l.t) + power l.j * l.c) + value (take l.j l.n) ≡ value (take l.j l.initial.t) + power l.j)
-
-abbrev pub decreases-loop-j : goal.decreases-loop-j
-decreases-loop-j l = length l.initial.t - l.j

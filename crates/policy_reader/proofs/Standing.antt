@@ -156,9 +156,19 @@ list =
       size_is = list_length;
     }
 
--- a list and an element that are answered end within the string
-pub list_within : (s : List ℕ) (at : ℕ) (l : ListAt) → Bytes s → list_shown at (value_of (Decode.list (drop at s))) ≡ Some l → at + l.size ≤ length s
-list_within s at l b e = (there_is list s at (λ i. record { fits = b i }) (Some l) l.size (sym e) refl (λ z. cc)).3
+-- a list and an element that are answered are not empty and end within the string
+module _ (s : List ℕ) (at : ℕ) where
+  abbrev pub Ends : ℕ → Type 0
+  Ends size = (0 < size) × (at + size ≤ length s)
 
-pub element_within : (s : List ℕ) (at : ℕ) (x : ElementAt) → Bytes s → element_shown at (value_of (Decode.element (drop at s))) ≡ Some x → at + x.size ≤ length s
-element_within s at x b e = (there_is element s at (λ i. record { fits = b i }) (Some x) x.size (sym e) refl (λ z. cc)).3
+  pub list_ends : ((i : ℕ) → Fits w8 (get_or s i 0)) → (l : ListAt) → list_shown at (value_of (Decode.list (drop at s))) ≡ Some l → Ends l.size
+  list_ends b l e = let (a, q, z, w) = there_is list s at b (Some l) l.size (sym e) refl (λ z. cc) in (z, w)
+
+  pub element_ends : ((i : ℕ) → Fits w8 (get_or s i 0)) → (x : ElementAt) → element_shown at (value_of (Decode.element (drop at s))) ≡ Some x → Ends x.size
+  element_ends b x e = let (a, q, z, w) = there_is element s at b (Some x) x.size (sym e) refl (λ z. cc) in (z, w)
+
+  pub list_within : (l : ListAt) → Bytes s → list_shown at (value_of (Decode.list (drop at s))) ≡ Some l → at + l.size ≤ length s
+  list_within l b e = (list_ends (λ i. record { fits = b i }) l e).1
+
+  pub element_within : (x : ElementAt) → Bytes s → element_shown at (value_of (Decode.element (drop at s))) ≡ Some x → at + x.size ≤ length s
+  element_within x b e = (element_ends (λ i. record { fits = b i }) x e).1

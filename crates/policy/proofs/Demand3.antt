@@ -7,7 +7,8 @@ use mathlib.Core.Option.{Option, some, none, map}
 use lib.ListN.{get_elem?}
 use Rattle.field.specs.Number.{Bytes}
 use Rattle.policy.specs.declared.Answers.{Answers}
-use Rattle.policy_answers.specs.declared.FileAnswer.TheVariants.{WrongSize, NotOfGrammar}
+use Rattle.std.specs.Prelude.{Err}
+use Rattle.policy_answers.specs.declared.FileFault.TheVariants.{WrongSize, NotOfGrammar}
 use Rattle.policy_grammar.specs.Grammar.{body_bytes, list_bytes, Element, PolicyList, Reading, Makes}
 use Rattle.policy_grammar.specs.Decode.{accepted, fault_place}
 use Rattle.policy_grammar.specs.Sizes.{sized}
@@ -21,7 +22,7 @@ use Rattle.policy_reader.proofs.Seen.{list_seen, key_seen, signature_seen, eleme
 -- a refused string has no number but 26 and 27, no lists, and no place but on 27
 module _ (s : List ℕ) (p : ℕ) (outside : sized s ≡ false → p ≡ 0) where
   refused_number : (x : Bool) → sized s ≡ x
-      → (number_of (cond x (NotOfGrammar p) WrongSize) ≡ cond x 27 26) × (count_of (cond x (NotOfGrammar p) WrongSize) ≡ 0) × (place_of (cond x (NotOfGrammar p) WrongSize) ≡ p)
+      → (number_of (Err (cond x (NotOfGrammar p) WrongSize)) ≡ cond x 27 26) × (count_of (Err (cond x (NotOfGrammar p) WrongSize)) ≡ 0) × (place_of (Err (cond x (NotOfGrammar p) WrongSize)) ≡ p)
   refused_number true e = (refl, refl, refl)
   refused_number false e = (refl, refl, sym (outside e))
 

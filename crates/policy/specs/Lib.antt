@@ -1,2 +1,3 @@
--- Demand 3, which the contracts by number add up to.
+-- Demand 3, which the contracts by number add up to, and what the contracts of inner functions say.
+pub mod Inner
 pub mod Demand3

@@ -4,7 +4,7 @@
 // string once, take the reader's `list_at` and `element_at`.
 #![tactic(auto)]
 
-use policy_answers::{ElementAnswer, FileAnswer, ListAnswer, PartAnswer};
+use policy_answers::{ElementAt, FileFault, ListAt, Part};
 use policy_reader::read;
 
 mod numbered;
@@ -16,11 +16,11 @@ pub use numbered::{element, key, list, signature};
 // All that the reader answers for a list number and an element number.
 #[derive(Clone, Copy)]
 pub struct Answers {
-    pub file: FileAnswer,
-    pub list: ListAnswer,
-    pub key: PartAnswer,
-    pub signature: PartAnswer,
-    pub element: ElementAnswer,
+    pub file: Result<usize, FileFault>,
+    pub list: Option<ListAt>,
+    pub key: Option<Part>,
+    pub signature: Option<Part>,
+    pub element: Option<ElementAt>,
 }
 
 // What the reader answers of s, of the list number i and of the element number j of it. The contract is demand 3 for these numbers: it names

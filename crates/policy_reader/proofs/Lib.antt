@@ -7,10 +7,9 @@ mod ListTests
 mod Rows
 mod FileTests
 mod ElementNumbers
--- Loops over elements and lists.
+-- Values in a row.
 mod Cuts
 pub mod Standing
-pub mod Loops
 -- Where the parts of a reading stand, and what is seen there.
 pub mod Places
 pub mod Seen

@@ -19,7 +19,9 @@ use Rattle.policy_grammar.specs.Parser.{Read, value, fault, value_of, Parser, re
 use Rattle.policy_grammar.specs.Layout as Layout
 use Rattle.policy_grammar.specs.Decode as Decode
 use Rattle.policy_answers.specs.Answers.{element_shown, element_size, signing_shown, list_shown, list_size}
-use Rattle.std.specs.Prelude.{None}
+use Rattle.std.specs.Prelude.{Some, None}
+use Rattle.policy_answers.specs.declared.ListAt.{ListAt}
+use Rattle.policy_answers.specs.declared.ElementAt.{ElementAt}
 use Rattle.policy_answers.specs.Types.{ListAnswer, ElementAnswer}
 use Rattle.policy_grammar.proofs.Soundness.{reads_sound, reads_complete}
 use Rattle.policy_grammar.proofs.Decoding.{element_sound, element_complete, element_length, list_sound, list_complete}
@@ -74,6 +76,14 @@ module _ (κ : Kind) (s : List ℕ) (at : ℕ) (b : (i : ℕ) → Fits w8 (get_o
       let w = κ.size_is at a v in
       let i : z ≡ n = z_is ∙ rw q (w.0 ∙ l) in
       (a, rw i q, omega (arith, w.1), omega (arith, w.1, length-drop at s, length-append (κ.make a) (drop n (drop at s)), ap length d))
+
+  -- where the answer is not that nothing is there
+  pub there_is : (e ≡ κ.missing → ⊥) → Stands
+  there_is h = go (κ.parser (drop at s)) refl
+    where
+      go : (g : Read κ.Value) → κ.parser (drop at s) ≡ g → Stands
+      go (fault p) q = absurd (h (ee ∙ rw q (sym (κ.none_shown at))))
+      go (value a n) q = there a n q
 
   pub stands : (z ≡ 0 → ⊥) → Stands
   stands h = go (κ.parser (drop at s)) refl
@@ -145,3 +155,20 @@ list =
       no_size = refl;
       size_is = list_length;
     }
+
+-- a list and an element that are answered are not empty and end within the string
+module _ (s : List ℕ) (at : ℕ) where
+  abbrev pub Ends : ℕ → Type 0
+  Ends size = (0 < size) × (at + size ≤ length s)
+
+  pub list_ends : ((i : ℕ) → Fits w8 (get_or s i 0)) → (l : ListAt) → list_shown at (value_of (Decode.list (drop at s))) ≡ Some l → Ends l.size
+  list_ends b l e = let (a, q, z, w) = there_is list s at b (Some l) l.size (sym e) refl (λ z. cc) in (z, w)
+
+  pub element_ends : ((i : ℕ) → Fits w8 (get_or s i 0)) → (x : ElementAt) → element_shown at (value_of (Decode.element (drop at s))) ≡ Some x → Ends x.size
+  element_ends b x e = let (a, q, z, w) = there_is element s at b (Some x) x.size (sym e) refl (λ z. cc) in (z, w)
+
+  pub list_within : (l : ListAt) → Bytes s → list_shown at (value_of (Decode.list (drop at s))) ≡ Some l → at + l.size ≤ length s
+  list_within l b e = (list_ends (λ i. record { fits = b i }) l e).1
+
+  pub element_within : (x : ElementAt) → Bytes s → element_shown at (value_of (Decode.element (drop at s))) ≡ Some x → at + x.size ≤ length s
+  element_within x b e = (element_ends (λ i. record { fits = b i }) x e).1

@@ -1,6 +1,6 @@
 // A policy file in lines: one for the file, each list, each element and each digest.
 use policy_answers::{
-    CUSTOM_TYPE, ElementAnswer, FileAnswer, LAUNCH_DIGESTS, LAUNCH_TYPE, ListAnswer, PartAnswer,
+    CUSTOM_TYPE, ElementAt, ElementBody, FileFault, LAUNCH_DIGESTS, LAUNCH_TYPE, ListAt, Part,
     STM_DIGESTS, STM_TYPE,
 };
 use std::{fmt, io};
@@ -23,14 +23,11 @@ fn digests(rt: &impl Print, b: &[u8], start: usize, k: usize) -> io::Result<()> 
     if k == 0 {
         return Ok(());
     }
-    if b.len() < start {
+    let Some(digests) = b.get(start..) else {
         return Ok(());
-    }
-    let mut at = start;
-    while k <= b.len() - at {
-        let digest = Hex(policy_answers::part_at(b, at, k));
-        println!(rt; "digest {digest}")?;
-        at += k;
+    };
+    for digest in digests.chunks_exact(k) {
+        println!(rt; "digest {}", Hex(digest))?;
     }
     Ok(())
 }
@@ -41,72 +38,49 @@ fn named(rt: &impl Print, b: &[u8], start: usize, hash_alg: usize, count: usize)
     digests(rt, b, start, policy_answers::digest_length(hash_alg))
 }
 
-// The start of an element's line: the number of its list and its own, what it is, where it stands, its type and its control.
-fn head(
-    rt: &impl Print,
-    i: usize,
-    j: usize,
-    what: &str,
-    start: usize,
-    size: usize,
-    kind: usize,
-    control: usize,
-) -> io::Result<()> {
-    print!(rt;
-        "element {i} {j} {what} start={start} size={size} type=0x{kind:08x} control=0x{control:08x}"
-    )
+// What an element is, and its type.
+fn named_type(body: ElementBody) -> (&'static str, usize) {
+    match body {
+        ElementBody::Launch { .. } => ("launch", LAUNCH_TYPE),
+        ElementBody::Stm { .. } => ("stm", STM_TYPE),
+        ElementBody::Custom => ("custom", CUSTOM_TYPE),
+        ElementBody::Unjudged { kind } => ("unjudged", kind),
+    }
 }
 
-// The element number j of the list number i.
-fn element(rt: &impl Print, s: &[u8], i: usize, j: usize, e: ElementAnswer) -> io::Result<()> {
-    match e {
-        ElementAnswer::Launch {
-            start,
-            size,
-            control,
+// The start of an element's line: what it is, where it stands, its type and its control.
+#[derive(Drop)]
+struct Head(ElementAt);
+
+impl fmt::Display for Head {
+    fn fmt<W: fmt::Write>(&self, f: &mut fmt::Formatter<W>) -> fmt::Result {
+        let e = self.0;
+        let (what, kind) = named_type(e.body);
+        write!(
+            f,
+            "{what} start={} size={} type=0x{kind:08x} control=0x{:08x}",
+            e.start, e.size, e.control
+        )
+    }
+}
+
+// The element e of s, which has the number j in the list number i.
+fn element(rt: &impl Print, s: &[u8], i: usize, j: usize, e: ElementAt) -> io::Result<()> {
+    print!(rt; "element {i} {j} {}", Head(e))?;
+    let body = policy_answers::body(s, Some(e));
+    match e.body {
+        ElementBody::Launch {
             sinit_min_version,
             reserved,
             hash_alg,
             count,
         } => {
-            head(rt, i, j, "launch", start, size, LAUNCH_TYPE, control)?;
             print!(rt; " sinitminversion={sinit_min_version} reserved={reserved}")?;
-            named(
-                rt,
-                policy_answers::body(s, e),
-                LAUNCH_DIGESTS,
-                hash_alg,
-                count,
-            )
+            named(rt, body, LAUNCH_DIGESTS, hash_alg, count)
         }
-        ElementAnswer::Stm {
-            start,
-            size,
-            control,
-            hash_alg,
-            count,
-        } => {
-            head(rt, i, j, "stm", start, size, STM_TYPE, control)?;
-            named(rt, policy_answers::body(s, e), STM_DIGESTS, hash_alg, count)
-        }
-        ElementAnswer::Custom {
-            start,
-            size,
-            control,
-        } => {
-            head(rt, i, j, "custom", start, size, CUSTOM_TYPE, control)?;
-            rt.println("")
-        }
-        ElementAnswer::Unjudged {
-            start,
-            size,
-            kind,
-            control,
-        } => {
-            head(rt, i, j, "unjudged", start, size, kind, control)?;
-            rt.println("")
-        }
-        ElementAnswer::Refused => Ok(()),
+        ElementBody::Stm { hash_alg, count } => named(rt, body, STM_DIGESTS, hash_alg, count),
+        ElementBody::Custom => rt.println(""),
+        ElementBody::Unjudged { .. } => rt.println(""),
     }
 }
 
@@ -114,95 +88,59 @@ fn element(rt: &impl Print, s: &[u8], i: usize, j: usize, e: ElementAnswer) -> i
 fn elements_from(rt: &impl Print, s: &[u8], i: usize, start: usize) -> io::Result<()> {
     let mut at = start;
     let mut j = 0;
-    while at < s.len() {
-        let e = policy_reader::element_at(s, at);
+    while let Some(e) = policy_reader::element_at(s, at) {
         element(rt, s, i, j, e)?;
-        let size = policy_answers::element_size(e);
-        if size == 0 {
-            return Ok(());
-        }
-        at += size;
+        at += e.size;
         j += 1;
     }
     Ok(())
 }
 
 // The elements of the list number i, which are a part of s.
-fn elements(rt: &impl Print, s: &[u8], i: usize, p: PartAnswer) -> io::Result<()> {
-    match p {
-        PartAnswer::At { start, len } => {
-            if s.len() < len {
-                return Ok(());
-            }
-            if s.len() - len < start {
-                return Ok(());
-            }
-            elements_from(rt, &s[..start + len], i, start)
-        }
-        PartAnswer::Absent => Ok(()),
+fn elements(rt: &impl Print, s: &[u8], i: usize, part: Part) -> io::Result<()> {
+    let Some(end) = part.start.checked_add(part.len) else {
+        return Ok(());
+    };
+    match s.get(..end) {
+        Some(front) => elements_from(rt, front, i, part.start),
+        None => Ok(()),
     }
 }
 
-// The start of a list's line.
-fn list_head(
-    rt: &impl Print,
-    i: usize,
-    start: usize,
-    size: usize,
-    version: usize,
-    algorithm: usize,
-    elements_size: usize,
-) -> io::Result<()> {
-    print!(rt;
-        "list {i} start={start} size={size} version=0x{version:04x} algorithm=0x{algorithm:04x} elements={elements_size}"
-    )
-}
-
 // The list number i.
-fn list(rt: &impl Print, i: usize, l: ListAnswer) -> io::Result<()> {
-    match l {
-        ListAnswer::Unsigned {
-            start,
-            size,
-            version,
-            elements: _,
-            elements_size,
-        } => {
-            list_head(rt, i, start, size, version, 0x0010, elements_size)?;
-            rt.println("")
-        }
-        ListAnswer::Signed {
-            start,
-            size,
-            version,
-            elements: _,
-            elements_size,
-            counter,
-            key_size,
-            key,
-            signature,
-        } => {
-            list_head(rt, i, start, size, version, 0x0014, elements_size)?;
-            println!(rt; " counter={counter} keysize={key_size} key={key} signature={signature}")
-        }
-        ListAnswer::Absent => Ok(()),
+fn list(rt: &impl Print, i: usize, l: ListAt) -> io::Result<()> {
+    let algorithm = if l.signing.is_some() { 0x0014 } else { 0x0010 };
+    print!(rt;
+        "list {i} start={} size={} version=0x{:04x} algorithm=0x{algorithm:04x} elements={}",
+        l.start, l.size, l.version, l.elements_size
+    )?;
+    match l.signing {
+        Some(g) => println!(rt;
+            " counter={} keysize={} key={} signature={}",
+            g.counter, g.key_size, g.key, g.signature
+        ),
+        None => rt.println(""),
     }
 }
 
 // The lists of s, so many, one after the other.
 fn lists(rt: &impl Print, s: &[u8], count: usize) -> io::Result<()> {
     let mut at = policy_reader::FIRST_LIST;
-    let mut i = 0;
-    while i < count {
-        let l = policy_reader::list_at(s, at);
-        list(rt, i, l)?;
-        elements(rt, s, i, policy_answers::elements_of(l))?;
-        let size = policy_answers::list_size(l);
-        if size == 0 {
+    for i in 0..count {
+        let Some(l) = policy_reader::list_at(s, at) else {
             return Ok(());
-        }
-        at += size;
-        i += 1;
+        };
+        list(rt, i, l)?;
+        elements(
+            rt,
+            s,
+            i,
+            Part {
+                start: l.elements,
+                len: l.elements_size,
+            },
+        )?;
+        at += l.size;
     }
     Ok(())
 }
@@ -210,11 +148,11 @@ fn lists(rt: &impl Print, s: &[u8], count: usize) -> io::Result<()> {
 // The file s.
 pub(crate) fn file(rt: &impl Print, s: &[u8]) -> io::Result<()> {
     match policy_reader::read(s) {
-        FileAnswer::Accepted { lists: count } => {
+        Ok(count) => {
             println!(rt; "accepted lists={count}")?;
             lists(rt, s, count)
         }
-        FileAnswer::WrongSize => rt.println("refused 26"),
-        FileAnswer::NotOfGrammar { place } => println!(rt; "refused 27 at {place}"),
+        Err(FileFault::WrongSize) => rt.println("refused 26"),
+        Err(FileFault::NotOfGrammar { place }) => println!(rt; "refused 27 at {place}"),
     }
 }

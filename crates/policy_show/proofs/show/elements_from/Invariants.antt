@@ -2,8 +2,8 @@
 use Rattle.std.proofs.Common.{◌-◌, ◌≤◌, length}
 use Rattle.policy_show.proofs.show.elements_from.Given as goal
 
-abbrev pub invariant-loop-at : goal.invariant-loop-at
-invariant-loop-at g l = l.j ≤ l.at
+abbrev pub invariant-loop-e : goal.invariant-loop-e
+invariant-loop-e g l = l.j ≤ l.at
 
-abbrev pub decreases-loop-at : goal.decreases-loop-at
-decreases-loop-at g l = length l.s - l.at
+abbrev pub decreases-loop-e : goal.decreases-loop-e
+decreases-loop-e g l = length l.s - l.at

@@ -5,7 +5,7 @@ ghost use Rattle.rules.specs.Tests.{any};
 ghost use Rattle.pages.specs.Memory.{page_of, window_of, memory_of, regions, allowed, protected};
 
 use crate::MemoryRanges;
-use range::{Condition, PAGE_SIZE, Range};
+use range::{ClearOf, PAGE_SIZE, Range};
 
 // The forbidden range below 1 MiB, 0xA0000 to 0xFFFFF.
 const LOW_BASE: u64 = 0xA0000;
@@ -41,7 +41,7 @@ pub(crate) fn is_allowed(m: MemoryRanges, reserved: &[u64], a: u64) -> bool
     };
     range::clear(page, low)
         && (range::clear(page, m.heap)
-            && (range::clear(page, m.sinit) && range::all_meet(Condition::ClearOf(page), reserved)))
+            && (range::clear(page, m.sinit) && range::all_meet(&ClearOf { other: page }, reserved)))
 }
 
 // Rule 20, of a range: wholly in DPR, in the low PMR or in the high PMR.

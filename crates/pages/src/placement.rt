@@ -1,8 +1,8 @@
-// What a page of memory is tried for: inside the window, clear of the forbidden ranges, held by a region; and whether one region holds a range of pages.
+// What a page of memory is tried for: clear of the forbidden ranges, held by a region; and whether one region holds a range of pages.
 ghost use Rattle.std.specs.Prelude.{ℕ, ◌≡◌, List};
 ghost use Rattle.range.specs.Range.{inside_of};
 ghost use Rattle.rules.specs.Tests.{any};
-ghost use Rattle.pages.specs.Memory.{page_of, window_of, memory_of, regions, allowed, protected};
+ghost use Rattle.pages.specs.Memory.{memory_of, regions, allowed, protected};
 
 use crate::MemoryRanges;
 use range::{ClearOf, PAGE_SIZE, Range};
@@ -11,21 +11,6 @@ use range::{ClearOf, PAGE_SIZE, Range};
 const LOW_BASE: u64 = 0xA0000;
 
 const LOW_SIZE: u64 = 0x60000;
-
-// Whether the page at a lies inside the window w that begins at `base`.
-pub(crate) fn in_window(w: &[u8], base: u64, a: u64) -> bool
-    ensures { result ≡ inside_of (page_of a) (window_of w.now base) }
-{
-    let page = Range {
-        base: a,
-        size: PAGE_SIZE,
-    };
-    let window = Range {
-        base,
-        size: w.len() as u64,
-    };
-    range::inside(page, window)
-}
 
 // Rule 17: clear of the forbidden range below 1 MiB, of the heap, of the module and of the reserved ranges.
 pub(crate) fn is_allowed(m: MemoryRanges, reserved: &[u64], a: u64) -> bool

@@ -4,28 +4,25 @@ ghost use Rattle.std.specs.Prelude.{◌≡◌};
 ghost use Rattle.mle.specs.Image.{address_at, bytes_at, image_digest, page_list};
 
 use crate::Image;
-use range::{PAGE_SIZE, Range};
+use pages::Tables;
+use range::PAGE_SIZE;
 
 // The physical address of the linear page l.
 pub(crate) fn address(w: &[u8], image: Image, l: u64) -> u64
     ensures { result ≡ address_at w.now image l }
 {
-    pages::address(pages::page(w, image.window, image.tables, l))
+    let tables = Tables {
+        window: image.window_in(w),
+        base: image.tables,
+    };
+    pages::address(tables.page(l))
 }
 
 // The bytes of the page at the physical address a, as a part of the window; none where the page is not wholly inside.
 pub(crate) fn page_bytes(w: &[u8], image: Image, a: u64) -> &[u8]
     ensures { result.now ≡ bytes_at w.now image a }
 {
-    let page = Range {
-        base: a,
-        size: PAGE_SIZE,
-    };
-    let window = Range {
-        base: image.window,
-        size: w.len() as u64,
-    };
-    if !range::inside(page, window) {
+    if !image.window_in(w).has_page(a) {
         return &w[..0];
     }
     let at = (a - image.window) as usize;
@@ -38,12 +35,10 @@ pub fn digest(w: &[u8], image: Image) -> [u8; 32]
     ensures { result ≡ image_digest w.now image }
 {
     let mut state = sha256::start();
-    let mut k: u32 = 0;
-    while k < image.count {
+    for k in 0..image.count {
         let a = address(w, image, image.first as u64 + k as u64);
         let next = sha256::absorb(state, page_bytes(w, image, a));
         state = next;
-        k += 1;
     }
     sha256::finish(state)
 }
@@ -56,9 +51,8 @@ pub fn write_pages(w: &[u8], image: Image, pages: &mut [u64])
     if pages.len() < count {
         return;
     }
-    let mut k: usize = 0;
-    while k < count {
+    // A proof knows no element of what was written through an iterator, once it is done: so each place is written by its index.
+    for k in 0..count {
         pages[k] = address(w, image, image.first as u64 + k as u64);
-        k += 1;
     }
 }

@@ -9,9 +9,25 @@ use Rattle.rules.specs.Tests.{filter}
 use Rattle.pages.specs.declared.Kind.{Kind}
 use Rattle.pages.specs.declared.Kind.TheVariants.{Pointer, Directory, Page}
 use Rattle.pages.specs.declared.progress.Progress.{Progress}
-use Rattle.pages.specs.Memory.{Memory, regions}
-use Rattle.pages.specs.Tables.{Found}
+use Rattle.pages.specs.declared.window.Window.{Window}
+use Rattle.pages.specs.declared.tables.Tables.{Tables}
+use Rattle.pages.specs.declared.levels.Walker.{Walker}
+use Rattle.pages.specs.Memory.{Memory, window_of, memory_of, regions}
+use Rattle.pages.specs.Tables.{Found, entry_at}
 use Rattle.pages.specs.Rules.{State, most_tables, after_all, rules_from}
+
+-- WHAT THE CODE IS GIVEN
+
+-- the window, and what the walk is told of the memory
+abbrev pub extent : Window → Range
+extent w = window_of w.bytes.now w.base
+
+abbrev pub told : Walker → Memory
+told walker = memory_of walker.memory walker.reserved.now
+
+-- the entry with a number in the level of its kind
+abbrev pub entry_in : Kind → Tables → ℕ → ℕ
+entry_in k t = entry_at k t.window.bytes.now t.window.base t.base
 
 -- WHAT THE CODE KEEPS
 

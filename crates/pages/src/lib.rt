@@ -6,11 +6,13 @@ mod levels;
 mod placement;
 mod progress;
 mod tables;
+mod window;
 
 pub use entry::address;
 pub use levels::walk;
 use range::Range;
-pub use tables::page;
+pub use tables::Tables;
+pub use window::Window;
 
 // Where an entry stands: in the pointer table, in a directory or in a page table.
 #[derive(Clone, Copy)]

@@ -1,31 +1,16 @@
-// What a page of memory is tried for: inside the window, clear of the forbidden ranges, held by a region; and whether one region holds a range of pages.
+// What a page of memory is tried for: clear of the forbidden ranges, held by a region; and whether one region holds a range of pages.
 ghost use Rattle.std.specs.Prelude.{ℕ, ◌≡◌, List};
 ghost use Rattle.range.specs.Range.{inside_of};
 ghost use Rattle.rules.specs.Tests.{any};
-ghost use Rattle.pages.specs.Memory.{page_of, window_of, memory_of, regions, allowed, protected};
+ghost use Rattle.pages.specs.Memory.{memory_of, regions, allowed, protected};
 
 use crate::MemoryRanges;
-use range::{Condition, PAGE_SIZE, Range};
+use range::{ClearOf, PAGE_SIZE, Range};
 
 // The forbidden range below 1 MiB, 0xA0000 to 0xFFFFF.
 const LOW_BASE: u64 = 0xA0000;
 
 const LOW_SIZE: u64 = 0x60000;
-
-// Whether the page at a lies inside the window w that begins at `base`.
-pub(crate) fn in_window(w: &[u8], base: u64, a: u64) -> bool
-    ensures { result ≡ inside_of (page_of a) (window_of w.now base) }
-{
-    let page = Range {
-        base: a,
-        size: PAGE_SIZE,
-    };
-    let window = Range {
-        base,
-        size: w.len() as u64,
-    };
-    range::inside(page, window)
-}
 
 // Rule 17: clear of the forbidden range below 1 MiB, of the heap, of the module and of the reserved ranges.
 pub(crate) fn is_allowed(m: MemoryRanges, reserved: &[u64], a: u64) -> bool
@@ -41,7 +26,7 @@ pub(crate) fn is_allowed(m: MemoryRanges, reserved: &[u64], a: u64) -> bool
     };
     range::clear(page, low)
         && (range::clear(page, m.heap)
-            && (range::clear(page, m.sinit) && range::all_meet(Condition::ClearOf(page), reserved)))
+            && (range::clear(page, m.sinit) && range::all_meet(&ClearOf { other: page }, reserved)))
 }
 
 // Rule 20, of a range: wholly in DPR, in the low PMR or in the high PMR.

@@ -1,51 +1,45 @@
--- Ranges in turn: what is left of the numbers after each range, and what a test of every range gives by what is left to test.
-use Prim.Native.Nat.{ℕ, suc, ◌+◌, ◌-◌, ◌≤◌, ◌<◌}
-use mathlib.Core.Path.{◌≡◌, refl, sym, ◌∙◌}
-use mathlib.Core.Bool.{Bool, true, false, ◌&&◌}
-use mathlib.Core.List.{List, [], ◌∷◌}
+-- Ranges in turn: numbers that are taken two by two give the ranges that they make, and a test of each is a test of every range.
+use Prim.Native.Nat.{ℕ, ◌<◌}
+use mathlib.Core.Path.{◌≡◌, refl, sym, ap, ◌∙◌}
+use mathlib.Core.Bool.{Bool}
+use mathlib.Core.List.{List, [], ◌∷◌, ◌++◌}
 use native.Mathlib.Omega.{arith}
-use lib.ListN.{length, length-drop, drop, get_or}
-use lib.Seq.{drop-cons}
+use lib.ListN.{length, length-append, get_or}
+use Rattle.std.specs.Borrow.{Bor}
+use Rattle.std.specs.List.{list_all}
+use Rattle.std.specs.Iterator.{AlwaysYields}
+use Rattle.std.specs.declared.slice.ChunksExact.{ChunksExact}
+use Rattle.std.specs.Slice.Iter.{chunks_exact_rest, chunks_exact_size, chunks_exact_steps}
 use Rattle.rules.specs.Tests.{every}
 use Rattle.range.specs.declared.Range.{Range}
 use Rattle.range.specs.Pairs.{ranges_of}
 
--- the range whose base is number i
-abbrev pub range_at : List ℕ → ℕ → Range
-range_at s i = record { base = get_or s i 0; size = get_or s (i + 1) 0 }
+-- the range that two numbers make
+abbrev pub range_in : Bor (List ℕ) → Range
+range_in pair = record { base = get_or pair.now 0 0; size = get_or pair.now 1 0 }
 
-ranges_from : (s : List ℕ) (i : ℕ) → 2 ≤ length s - i → ranges_of (drop i s) ≡ range_at s i ∷ ranges_of (drop (i + 2) s)
+-- two numbers in front
+front : (ys zs : List ℕ) (x y : ℕ) (rest : List ℕ) → x ∷ (y ∷ rest) ≡ ys ++ zs → length ys ≡ 2 → (ys ≡ x ∷ (y ∷ [])) × (zs ≡ rest)
+front [] zs x y rest e l = absurd (omega arith)
+front (a ∷ []) zs x y rest e l = absurd (omega arith)
+front (a ∷ (b ∷ [])) zs x y rest e l = (cc, cc)
+front (a ∷ (b ∷ (c ∷ ys))) zs x y rest e l = absurd (omega arith)
+
+too_few : (ys zs xs : List ℕ) → length xs < 2 → xs ≡ ys ++ zs → length ys ≡ 2 → ⊥
+too_few ys zs xs h e l = omega (arith, ap length e, length-append ys zs)
+
+pub pairs_yield : (xs : List ℕ) (s : ChunksExact ℕ) → chunks_exact_rest s ≡ xs → chunks_exact_size s ≡ 2
+    → AlwaysYields chunks_exact_steps range_in s (ranges_of xs)
 unfolding ranges_of
-ranges_from s i h =
-    let next : i + 1 ≡ suc i = omega arith in
-    let second : i + 2 ≡ suc (suc i) = omega arith in
-    rw (drop-cons s i 0 (omega arith), drop-cons s (suc i) 0 (omega arith), next, second)
+pairs_yield [] s e z = λ p t h. too_few _ _ [] (omega arith) (sym e ∙ h.1.0) (h.1.1 ∙ z)
+pairs_yield (x ∷ []) s e z = λ p t h. too_few _ _ (x ∷ []) (omega arith) (sym e ∙ h.1.0) (h.1.1 ∙ z)
+pairs_yield (x ∷ (y ∷ rest)) s e z = (
+  λ t h. omega (arith, h.1.0, ap length e),
+  λ p t h.
+      let f = front _ _ x y rest (sym e ∙ h.1.0) (h.1.1 ∙ z) in
+      (rw f.0, pairs_yield rest t f.1 (h.0 ∙ z)),
+)
 
-no_range : (s : List ℕ) → length s < 2 → ranges_of s ≡ []
-unfolding ranges_of
-no_range [] h = refl
-no_range (x ∷ []) h = refl
-no_range (x ∷ y ∷ s) h = absurd (omega arith)
-
-module _ (test : Range → Bool) (s : List ℕ) where
-  -- what is left to test from number i on gives what the whole gives
-  pub record Left (i : ℕ) : Type 0 where
-    pub within : i ≤ length s
-    pub same : every test (ranges_of (drop i s)) ≡ every test (ranges_of s)
-
-  pub start : Left 0
-  start = record { within = omega arith; same = refl }
-
-  module _ (i : ℕ) (left : Left i) where
-    module _ (more : 2 ≤ length s - i) (met : Bool) (is-test : met ≡ test (range_at s i)) where
-      here : every test (ranges_of s) ≡ (met && every test (ranges_of (drop (i + 2) s)))
-      here = sym left.same ∙ rw (ranges_from s i more, is-test)
-
-      pub fails : met ≡ false → false ≡ every test (ranges_of s)
-      fails h = rw (here, h)
-
-      pub onward : met ≡ true → Left (i + 2)
-      onward h = record { within = omega arith; same = rw (here, h) }
-
-    pub ended : length s - i < 2 → true ≡ every test (ranges_of s)
-    ended h = rw (← left.same, no_range (drop i s) (omega (arith, length-drop i s)))
+pub every_is : {A : Type 0} (test : A → Bool) (xs : List A) → list_all test xs ≡ every test xs
+every_is test [] = refl
+every_is test (x ∷ xs) = rw (every_is test xs)

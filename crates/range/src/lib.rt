@@ -6,7 +6,7 @@ mod pairs;
 ghost use Rattle.std.specs.Prelude.{◌≡◌};
 ghost use Rattle.range.specs.Range.{inside_of, clear_of, ends_by};
 
-pub use pairs::{Condition, all_meet};
+pub use pairs::{ClearOf, Condition, EndsBy, all_meet};
 
 // The bytes of a page of memory.
 pub const PAGE_SIZE: u64 = 4096;

@@ -1,40 +1,56 @@
 // Ranges that are lent as numbers, the base and the size of each in turn.
-ghost use Rattle.std.specs.Prelude.{◌≡◌};
+ghost use Rattle.std.specs.Prelude.{◌≡◌, Bool};
 ghost use Rattle.rules.specs.Tests.{every};
-ghost use Rattle.range.specs.Pairs.{ranges_of, meets_of};
+ghost use Rattle.range.specs.declared.Range.{Range};
+ghost use Rattle.range.specs.Range.{clear_of, ends_by};
+ghost use Rattle.range.specs.Pairs.{ranges_of};
 
 use crate::{Range, clear, ends_by};
 
-// What is asked of a range: that it has no byte in common with another, or that it ends at or below a limit.
-#[derive(Clone, Copy)]
-pub enum Condition {
-    ClearOf(Range),
-    EndsBy(u64),
+// What can be asked of a range.
+pub trait Condition {
+    ghost met_by: { Self → Range → Bool };
+
+    fn is_met(&self, r: Range) -> bool
+        ensures { result ≡ met_by self.now r };
 }
 
-fn meets(c: Condition, r: Range) -> bool
-    ensures { result ≡ meets_of c r }
-{
-    match c {
-        Condition::ClearOf(a) => clear(a, r),
-        Condition::EndsBy(limit) => ends_by(r, limit),
+// A range has no byte in common with another.
+#[derive(Clone, Copy)]
+pub struct ClearOf {
+    pub other: Range,
+}
+
+impl Condition for ClearOf {
+    ghost met_by = { λ c. clear_of c.other };
+
+    fn is_met(&self, r: Range) -> bool {
+        clear(self.other, r)
+    }
+}
+
+// A range ends at or below a limit.
+#[derive(Clone, Copy)]
+pub struct EndsBy {
+    pub limit: u64,
+}
+
+impl Condition for EndsBy {
+    ghost met_by = { λ c r. ends_by r c.limit };
+
+    fn is_met(&self, r: Range) -> bool {
+        ends_by(r, self.limit)
     }
 }
 
 // Whether all ranges meet a condition.
-pub fn all_meet(c: Condition, pairs: &[u64]) -> bool
-    ensures { result ≡ every (meets_of c) (ranges_of pairs.now) }
+pub fn all_meet<C: Condition>(c: &C, pairs: &[u64]) -> bool
+    ensures { result ≡ every (C.met_by c.now) (ranges_of pairs.now) }
 {
-    let mut i: usize = 0;
-    while 2 <= pairs.len() - i {
-        let r = Range {
-            base: pairs[i],
-            size: pairs[i + 1],
-        };
-        if !meets(c, r) {
-            return false;
-        }
-        i += 2;
-    }
-    true
+    pairs.chunks_exact(2).all(|pair| {
+        c.is_met(Range {
+            base: pair[0],
+            size: pair[1],
+        })
+    })
 }

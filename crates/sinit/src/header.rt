@@ -69,16 +69,12 @@ fn gdt_limit(acm: &[u8]) -> u64
 fn row_of(version: u64) -> Edition
     ensures { result ≡ row_of version first editions }
 {
-    let rows = EDITIONS;
-    let mut i = 0;
-    while i < rows.len() {
-        let row = rows[i];
+    for row in EDITIONS {
         if row.version == version {
             return row;
         }
-        i += 1;
     }
-    rows[0]
+    EDITIONS[0]
 }
 
 // The edition of a module's header.

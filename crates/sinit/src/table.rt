@@ -134,15 +134,10 @@ fn chipset_listed(acm: &[u8], chipset: Chipset) -> bool
 {
     let start = list_offset(acm);
     let count = list_count(acm);
-    let mut i: u64 = 0;
-    while i < count {
+    (0..count).any(|i| {
         let at = start + COUNT_SIZE + ENTRY_SIZE * i;
-        if entry_matches(acm, at as usize, chipset) {
-            return true;
-        }
-        i += 1;
-    }
-    false
+        entry_matches(acm, at as usize, chipset)
+    })
 }
 
 // Rule 11: the version of OsSinitData.

@@ -4,4 +4,4 @@ use Rattle.mle.proofs.linear.address.Goals as goal
 
 pub returns : goal.returns
 unfolding address_at
-returns c = simp (c.address.ensures, c.page.ensures)
+returns c = simp (c.address.ensures, c.page.ensures, c.window_in.ensures.same_bytes, c.window_in.ensures.same_base)

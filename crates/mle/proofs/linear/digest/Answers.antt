@@ -19,7 +19,7 @@ more w image s r l k a page holds e f done =
     rw (← bytes_more w image l k, ← e, ← f) (absorb_holds s r _ page holds done)
 
 pub loop-k-init : goal.loop-k-init
-loop-k-init c = (search rules, rw (bytes_nothing, c.start-state.ensures) start_holds)
+loop-k-init c = rw (bytes_nothing, c.start-state.ensures) start_holds
 
 pub loop-k-preserved : goal.loop-k-preserved
 loop-k-preserved c = search (rules, more)
@@ -29,4 +29,4 @@ unfolding image_digest
 returns c =
     let image = c.args.image in
     let e : c.loop-k.k ≡ image.count = omega arith in
-    c.finish.ensures ∙ finish_holds _ _ (rw e at c.loop-k.invariant.1)
+    c.finish.ensures ∙ finish_holds _ _ (rw e at c.loop-k.invariant)

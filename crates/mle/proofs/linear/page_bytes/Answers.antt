@@ -1,12 +1,11 @@
 -- `page_bytes` meets its contract: a page inside the window ends within it.
-use Prim.Native.Nat.{ℕ, ◌+◌, ◌-◌}
+use Prim.Native.Nat.{ℕ, ◌+◌, ◌-◌, ◌≤◌}
 use mathlib.Core.Path.{◌≡◌, sym, ◌∙◌}
 use mathlib.Core.Bool.{Bool, true, false}
 use mathlib.Core.List.{List, []}
 use native.Mathlib.Nat.{add-sub_cancel_left}
 use native.Mathlib.Omega.{arith}
-use borrow.Author.Rules.{rules}
-use lib.ListN.{take, drop}
+use lib.ListN.{length, take, drop}
 use Rattle.range.specs.Range.{inside_of, page_size}
 use Rattle.range.proofs.Ranges.{inside_bounds}
 use Rattle.rules.proofs.Tests.{confirmed}
@@ -24,17 +23,35 @@ module _ (w : List ℕ) (image : Image) (a : ℕ) (r : Bool) (e : r ≡ inside_o
   inside : r ≡ true → take (a - image.window + page_size - (a - image.window)) (drop (a - image.window) w) ≡ bytes_at w image a
   inside h = rw add-sub_cancel_left (sym (bytes_there w image a (confirmed r e h)))
 
-pub returns-then-not-inside : goal.returns-then-not-inside
-returns-then-not-inside c = search (rules, outside)
+-- what the test says, in the image's own terms
+module _ (w b : List ℕ) (image : Image) (base a : ℕ) (r : Bool) (bytes : b ≡ w) (at : base ≡ image.window) (e : r ≡ inside_of (page_of a) (window_of b base)) where
+  tested : r ≡ inside_of (page_of a) (window_of w image.window)
+  tested = rw (← bytes, ← at) e
+
+  bounds : r ≡ true → (image.window ≤ a) × (a + page_size ≤ image.window + length w)
+  bounds h = (inside_bounds _ _).0 (confirmed r tested h)
+
+pub returns-then-not-has_page : goal.returns-then-not-has_page
+returns-then-not-has_page c =
+    let w = c.window_in.ensures in
+    outside _ c.args.image _ _ (tested _ _ c.args.image _ _ _ w.same_bytes w.same_base c.has_page.ensures) c.if-not-has_page.true
 
 pub overflow_sub-at : goal.overflow_sub-at
-overflow_sub-at c = omega (arith, (inside_bounds _ _).0 (confirmed _ c.inside.ensures c.if-not-inside.false))
+overflow_sub-at c =
+    let w = c.window_in.ensures in
+    omega (arith, bounds _ _ c.args.image _ _ _ w.same_bytes w.same_base c.has_page.ensures c.if-not-has_page.false)
 
 pub overflow_add-end : goal.overflow_add-end
-overflow_add-end c = omega (arith, (inside_bounds _ _).0 (confirmed _ c.inside.ensures c.if-not-inside.false))
+overflow_add-end c =
+    let w = c.window_in.ensures in
+    omega (arith, bounds _ _ c.args.image _ _ _ w.same_bytes w.same_base c.has_page.ensures c.if-not-has_page.false)
 
 pub slice_bounds-result-end-2 : goal.slice_bounds-result-end-2
-slice_bounds-result-end-2 c = omega (arith, (inside_bounds _ _).0 (confirmed _ c.inside.ensures c.if-not-inside.false))
+slice_bounds-result-end-2 c =
+    let w = c.window_in.ensures in
+    omega (arith, bounds _ _ c.args.image _ _ _ w.same_bytes w.same_base c.has_page.ensures c.if-not-has_page.false)
 
 pub returns : goal.returns
-returns c = search (rules, inside)
+returns c =
+    let w = c.window_in.ensures in
+    inside _ c.args.image _ _ (tested _ _ c.args.image _ _ _ w.same_bytes w.same_base c.has_page.ensures) c.if-not-has_page.false

@@ -1,13 +1,9 @@
-use Prim.Native.Nat.{◌-◌, ◌≤◌}
 use mathlib.Core.Path.{◌≡◌}
 use mathlib.Core.List.{◌++◌}
-use lib.ListN.{length, drop}
+use lib.ListN.{drop}
 use Rattle.mle.specs.Image.{addresses_from}
 use Rattle.mle.proofs.linear.write_pages.Given as goal
 
 abbrev pub invariant-loop-k : goal.invariant-loop-k
 invariant-loop-k l =
-    (l.k ≤ l.count) × (length l.pages ≡ length l.initial.pages) × (l.pages ≡ addresses_from l.w l.image l.image.first l.k ++ drop l.k l.initial.pages)
-
-abbrev pub decreases-loop-k : goal.decreases-loop-k
-decreases-loop-k l = l.count - l.k
+    l.pages ≡ addresses_from l.w l.image l.image.first l.k ++ drop l.k l.initial.pages

@@ -1,16 +1,16 @@
--- `all_meet` meets its contract: what is left to test gives what all ranges give.
-use native.Mathlib.Omega.{arith}
-use Rattle.range.proofs.EachRange.{start, fails, onward, ended}
+-- `all_meet` meets its contract: the numbers two by two are the ranges, and each is tested.
+use mathlib.Core.Path.{◌∙◌}
+use borrow.Author.Rules.{rules}
+use Rattle.std.specs.Slice.Iter.{chunks_exact_steps}
+use Rattle.std.proofs.lemmas.Iterator.{YieldsList}
+use Rattle.std.proofs.lemmas.Iterator.Search.{all_from_yields_List}
+use Rattle.range.specs.Pairs.{ranges_of}
+use Rattle.range.proofs.EachRange.{range_in, pairs_yield, every_is}
 use Rattle.range.proofs.pairs.all_meet.Goals as goal
 
-pub loop-i-init : goal.loop-i-init
-loop-i-init c = start _ _
-
-pub returns-then-not-meets : goal.returns-then-not-meets
-returns-then-not-meets c = fails _ _ _ c.loop-i.invariant (omega (arith, c.loop-i-test.true)) _ c.meets.ensures c.if-not-meets.true
-
-pub loop-i-preserved : goal.loop-i-preserved
-loop-i-preserved c = onward _ _ _ c.loop-i.invariant (omega (arith, c.loop-i-test.true)) _ c.meets.ensures c.if-not-meets.false
-
 pub returns : goal.returns
-returns c = ended _ _ _ c.loop-i.invariant (omega (arith, c.loop-i-test.false))
+returns g c =
+    let yields : YieldsList chunks_exact_steps range_in c.chunks_exact.result (ranges_of c.args.pairs.now) =
+    record { runs = pairs_yield _ _ c.chunks_exact.ensures.rest c.chunks_exact.ensures.size } in
+    all_from_yields_List {v = range_in} (g.C.Condition.met_by c.args.c.now) _ _ _ c.all.ensures.ran yields (λ x b q h. search rules)
+    ∙ every_is (g.C.Condition.met_by c.args.c.now) (ranges_of c.args.pairs.now)

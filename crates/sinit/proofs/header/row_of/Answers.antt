@@ -4,7 +4,6 @@ use mathlib.Core.Path.{◌≡◌, sym, ◌∙◌}
 use mathlib.Core.List.{List}
 use native.Mathlib.Numerals.{add-one}
 use native.Mathlib.Omega.{arith}
-use borrow.Author.Rules.{rules}
 use borrow.Author.Tests.{eq-eqb, ne_eqb}
 use lib.ListN.{length, drop, get_or, drop_of_length-le}
 use lib.Seq.{drop-cons}
@@ -28,12 +27,12 @@ module _ (v : ℕ) (other d : Edition) (rows : List Edition) (i : ℕ) where
 
 pub returns-then-row-version : goal.returns-then-row-version
 returns-then-row-version c =
-    sym (has c.args.version first _ editions c.loop-i.i (omega arith) c.if-row-version.true) ∙ c.loop-i.invariant.1
+    sym (has c.args.version first _ editions c.loop-row.row-index (omega arith) c.if-row-version.true) ∙ c.loop-row.invariant
 
-pub loop-i-preserved : goal.loop-i-preserved
-loop-i-preserved c =
-    (search rules, passes c.args.version first _ editions c.loop-i.i (omega arith) c.if-row-version.false ∙ c.loop-i.invariant.1)
+pub loop-row-preserved : goal.loop-row-preserved
+loop-row-preserved c =
+    passes c.args.version first _ editions c.loop-row.row-index (omega arith) c.if-row-version.false ∙ c.loop-row.invariant
 
 pub returns : goal.returns
 returns c =
-    sym (ends c.args.version first first editions c.loop-i.i (omega arith)) ∙ c.loop-i.invariant.1
+    sym (ends c.args.version first first editions c.loop-row.row-index (omega arith)) ∙ c.loop-row.invariant

@@ -1,8 +1,0 @@
--- `judge_table` meets its contract: its rules in their order.
-use mathlib.Core.Path.{refl}
-use Rattle.rules.proofs.Refusals.{rule_held, rule_last}
-use Rattle.pages.proofs.levels.judge_table.Goals as goal
-
-pub returns : goal.returns
-returns c reserved =
-    rule_held _ _ _ _ _ _ c.in_ok-require.ensures refl (rule_last _ _ _ c.require-2.ensures (c.is_table_protected.ensures reserved))

@@ -1,10 +1,14 @@
 -- Both stages in turn give the answer of the specification, and the page list by it.
-use Prim.Native.Nat.{ℕ}
+use Prim.Native.Nat.{ℕ, ◌≤◌}
 use mathlib.Core.Path.{◌≡◌, refl, ◌∙◌, ap}
 use mathlib.Core.List.{List}
 use lib.Dec.{lit<}
 use Rattle.rules.specs.Rules.{Rule, first_failing, answer_for, answer_by}
-use Rattle.rules.proofs.Rules.{numbers_not_0}
+use Rattle.rules.proofs.Rules.{numbers_not_0, number_most}
+use Rattle.rules.proofs.Refusals.{no_place}
+use Rattle.rules.specs.declared.refusal.Refusal.{Refusal}
+use Rattle.rules.specs.Refusal as refusals
+use native.Mathlib.Omega.{arith}
 use Rattle.rules.proofs.Answers.{made_of, group_passes}
 use Rattle.mle.specs.Image.{page_list}
 use Rattle.mle.proofs.Pages.{page_list_none}
@@ -32,6 +36,14 @@ module _ (i : Input) where
   find_refuses n e =
       let a = refused_by (find_rules i) (found i) n e in
       unplaced_refuses i.window (found i) outcome 1 22 (find_rules i) later (find_group i).numbers n (lit< tt) a.0 a.1
+
+  -- by a refusal, which has no place since its number is no 27
+  pub find_stops : (r : Refusal) → find_stage i ≡ Err (refusals.number r) → early_refusal (refusals.number r) (refusals.place r) ≡ outcome_of i
+  unfolding find_stage
+  find_stops r e =
+      let a = refused_by (find_rules i) (found i) (refusals.number r) e in
+      let below : refusals.number r ≤ 22 = omega (arith, a.1, number_most 1 22 (find_rules i) (find_group i).numbers) in
+      ap (early_refusal (refusals.number r)) (no_place r (λ z. omega arith)) ∙ find_refuses (refusals.number r) e
 
   pub find_passes : (f : Found) → find_stage i ≡ Ok f → decide_stage i.window i.policy_record i.stm f ≡ outcome_of i
   unfolding find_stage decide_stage outcome_of rules

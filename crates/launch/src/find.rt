@@ -38,30 +38,36 @@ fn reserved_holds(reserved: ReservedRanges) -> bool
     }
     let numbers = reserved.numbers;
     let length = 2 * reserved.count as usize;
-    range::all_meet(EndsBy(HIGHEST_END), &numbers[..length])
+    range::all_meet(&EndsBy { limit: HIGHEST_END }, &numbers[..length])
 }
 
 // Rule 1.
 fn platform_holds(lent: &Lent) -> bool
     ensures { result ≡ all (platform_tests lent.now.window.now lent.now.heap.now lent.now.stm.now lent.now.platform) }
 {
-    let p = lent.platform;
+    let Lent {
+        window,
+        heap,
+        stm,
+        platform: p,
+        ..
+    } = *lent;
     if p.window_base % PAGE_SIZE != 0 {
         return false;
     }
-    if MOST_WINDOW < lent.window.len() {
+    if MOST_WINDOW < window.len() {
         return false;
     }
-    if MOST_HEAP < lent.heap.len() {
+    if MOST_HEAP < heap.len() {
         return false;
     }
-    if MOST_STM < lent.stm.len() {
+    if MOST_STM < stm.len() {
         return false;
     }
-    if !ends(p.window_base, lent.window.len() as u64) {
+    if !ends(p.window_base, window.len() as u64) {
         return false;
     }
-    if !ends(p.heap_base, lent.heap.len() as u64) {
+    if !ends(p.heap_base, heap.len() as u64) {
         return false;
     }
     if !ends(p.dpr_base, p.dpr_size) {

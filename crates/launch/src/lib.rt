@@ -109,23 +109,28 @@ fn judge(lent: &Lent, places: usize) -> Result<Permission, Refused>
 fn permitted(p: Permission) -> Answer
     ensures { result ≡ (permitted_shown p).answer }
 {
+    let Permission {
+        image,
+        list,
+        digest,
+    } = p;
     Answer {
         number: 0,
-        pages: p.image.count,
-        list: p.list.unwrap_or(NO_LIST),
+        pages: image.count,
+        list: list.unwrap_or(NO_LIST),
         place: 0,
-        digest: p.digest,
+        digest,
     }
 }
 
 // The answer for what is lent, and on permission the addresses of the pages in the first places of the page list. `measurement` gets the digest of
 // the pages, on 29 too, and zeros on every other refusal.
-pub fn check_measured(
-    window: &[u8],
-    heap: &[u8],
-    sinit: &[u8],
-    record: &[u8],
-    stm: &[u8],
+pub fn check_measured<'a>(
+    window: &'a [u8],
+    heap: &'a [u8],
+    sinit: &'a [u8],
+    record: &'a [u8],
+    stm: &'a [u8],
     platform: Platform,
     pages: &mut [u64],
     measurement: &mut [u8; 32],
@@ -145,11 +150,13 @@ pub fn check_measured(
     match judge(&lent, pages.len()) {
         Ok(permission) => {
             mle::write_pages(window, permission.image, pages);
-            *measurement = permission.digest;
+            let digest = permission.digest;
+            *measurement = digest;
             permitted(permission)
         }
         Err(refused) => {
-            *measurement = refused.measurement;
+            let shown = refused.measurement;
+            *measurement = shown;
             Answer::from(refused.refusal)
         }
     }

@@ -9,7 +9,7 @@ use lib.Dec.{lit<}
 use Rattle.std.specs.Prelude.{⊤, Result, Ok, Err}
 use Rattle.rules.specs.declared.refusal.Refusal.{Refusal}
 use Rattle.rules.specs.declared.refusal.Refusal.TheVariants as refusals
-use Rattle.rules.specs.Refusal.{number, number_of, numbered, failing}
+use Rattle.rules.specs.Refusal.{number, place, number_of, numbered, failing}
 use Rattle.rules.specs.Rules.{Rule, answer_for, answer_by}
 use Rattle.rules.specs.Meaning.{Meaning, FirstBroken}
 use Rattle.rules.proofs.Meaning.{Agree}
@@ -50,6 +50,11 @@ number_not_0 refusals.Capture = lit< tt
 number_not_0 refusals.PolicyDescription = lit< tt
 number_not_0 refusals.PolicySize = lit< tt
 number_not_0 refusals.PolicyRoom = lit< tt
+
+-- a place goes with 27 alone
+pub no_place : (r : Refusal) → (number r ≡ 27 → ⊥) → place r ≡ 0
+no_place (refusals.PolicyGrammar p) h = absurd (h refl)
+no_place r h = refl
 
 -- ONE RULE
 

@@ -1,13 +1,13 @@
 -- Text in arrays: digits that a loop puts in from the last to the first, and text that a loop puts behind other text.
-use Prim.Native.Nat.{ℕ, zero, suc, ◌+◌, ◌-◌, ◌/◌, ◌%◌, ◌^◌, ◌<◌, ◌≤◌}
+use Prim.Native.Nat.{ℕ, zero, suc, ◌-◌, ◌/◌, ◌%◌, ◌^◌, ◌<◌, ◌≤◌}
 use mathlib.Core.Path.{◌≡◌, sym, ◌∙◌, ap, ap₂}
 use mathlib.Core.List.{List, [], ◌∷◌, ◌++◌, append_assoc, append-nil}
-use native.Mathlib.Numerals.{add-one, sub-one}
-use native.Mathlib.Nat.{add-zero, add-suc, pow-suc, div-lt_iff_lt-mul}
+use native.Mathlib.Numerals.{sub-one}
+use native.Mathlib.Nat.{pow-suc, div-lt_iff_lt-mul}
 use native.Mathlib.Omega.{arith}
 use borrow.Author.Tests.{lt-ltb, le-ltb, eq-eqb, ne_eqb}
-use lib.ListN.{length, take, drop, set, get_or, length-drop}
-use lib.Seq.{take-suc, take-suc-set, take_all, drop-cons, drop-set-lt, get_or-set_same, lt-length-set, append_snoc}
+use lib.ListN.{length, drop, set}
+use lib.Seq.{drop-cons, drop-set-lt, get_or-set_same, lt-length-set, append_snoc}
 use Rattle.answer.specs.declared.Answer.{Answer}
 use Rattle.answer_text.specs.Text.{LF, digit, hex_digit, digits, decimal, hex, permitted_text, list_text, refused_text, at_text, not_of_grammar, refused_line, first_line}
 
@@ -47,28 +47,6 @@ module _ (s : List ℕ) where
   unfolding hex
   hex_step zero n x p h e = absurd (omega arith)
   hex_step (suc k) n x p h e = rw sub-one (before (hex k (n / 16)) s k x (omega arith) ∙ rw e)
-
--- TEXT BEHIND TEXT
-
-module _ (a s : List ℕ) (n : ℕ) where
-  pub text_start : take (n + 0) a ≡ take n a ++ take 0 s
-  text_start = rw add-zero (sym (append-nil (take n a)))
-
-  pub text_step : (b : List ℕ) (i : ℕ) → n + i < length b → i < length s → take (n + i) b ≡ take n a ++ take i s
-      → take (n + (i + 1)) (set b (n + i) (get_or s i 0)) ≡ take n a ++ take (i + 1) s
-  text_step b i h l e =
-      rw (add-one, add-suc)
-      (take-suc-set b (n + i) (get_or s i 0) h
-      ∙ ap (λ (t : List ℕ). t ++ (get_or s i 0 ∷ [])) e
-      ∙ append_assoc (take n a) (take i s) (get_or s i 0 ∷ [])
-      ∙ ap (λ (t : List ℕ). take n a ++ t) (sym (take-suc s i 0 l)))
-
-  pub text_end : (b : List ℕ) (i : ℕ) → length s ≤ i → take (n + i) b ≡ take n a ++ take i s → take (n + i) b ≡ take n a ++ s
-  text_end b i h e = e ∙ ap (λ (t : List ℕ). take n a ++ t) (take_all i s h)
-
--- a part that goes to the end of an array of n elements
-pub rest : (s : List ℕ) (n k : ℕ) → length s ≡ n → take (n - k) (drop k s) ≡ drop k s
-rest s n k e = take_all (n - k) (drop k s) (omega (arith, length-drop k s))
 
 -- the first line, piece by piece
 module _ (a : Answer) where

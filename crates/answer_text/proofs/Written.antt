@@ -1,8 +1,9 @@
 -- The output in a buffer: text that is put behind text, the lines of pages one after the other, and both lines together.
-use Prim.Native.Nat.{ℕ, zero, suc, ◌+◌, ◌*◌, ◌/◌, ◌<◌, ◌≤◌}
+use Prim.Native.Nat.{ℕ, zero, suc, ◌+◌, ◌*◌, ◌/◌, ◌<◌, ◌≤◌, min}
+use Rattle.std.proofs.lemmas.List.{take_min}
 use mathlib.Core.Path.{◌≡◌, refl, sym, ◌∙◌, ap, ap₂}
 use mathlib.Core.List.{List, [], ◌∷◌, ◌++◌, append_assoc}
-use native.Mathlib.Nat.{add_assoc}
+use native.Mathlib.Nat.{add_assoc, min_comm}
 use native.Mathlib.Omega.{arith}
 use borrow.Author.Tests.{le-leb, lt-leb, eq-eqb, ne_eqb}
 use lib.ListN.{length, take, drop, get_or, length-append}
@@ -63,48 +64,44 @@ module _ (a : Answer) (places : List ℕ) where
   unfolding shown_pages
   shown_none h = rw (ne_eqb a.number 0 h)
 
-  pub shown_some : a.number ≡ 0 → take a.pages places ≡ shown_pages a places
+  pub shown_some : a.number ≡ 0 → take (min (length places) a.pages) places ≡ shown_pages a places
   unfolding shown_pages
-  shown_some e = rw (eq-eqb a.number 0 e)
+  shown_some e = rw (eq-eqb a.number 0 e) (rw min_comm (take_min a.pages places))
 
-  pub shown_all : a.number ≡ 0 → length places ≤ a.pages → take (length places) places ≡ shown_pages a places
-  shown_all e h = take_all (length places) places (omega arith) ∙ sym (take_all a.pages places h) ∙ shown_some e
-
-module _ (a : Answer) (places d : List ℕ) (n : ℕ) (there : n ≤ length places) (is-shown : take n places ≡ shown_pages a places) where
+module _ (a : Answer) (places d pages : List ℕ) (is-shown : pages ≡ shown_pages a places) where
   abbrev lines : List ℕ
-  lines = page_lines (take n places)
+  lines = page_lines pages
 
   is_output : output a places ≡ first_line a ++ lines
   unfolding output
   is_output = ap (λ (l : List ℕ). first_line a ++ page_lines l) (sym is-shown)
 
-  lines_are : length lines ≡ 17 * n
-  lines_are = lines_length (take n places) ∙ omega (arith, length-take-le n places there)
-
-  size : length (output a places) ≡ length (first_line a) + 17 * n
-  size = ap length is_output ∙ length-append (first_line a) lines ∙ omega (arith, lines_are)
+  size : length (output a places) ≡ length (first_line a) + 17 * length pages
+  size = ap length is_output ∙ length-append (first_line a) lines ∙ omega (arith, lines_length pages)
 
   -- by the first line that was worked out, and its length
   module _ (w : List ℕ) (len : ℕ) (is-w : w ≡ first_line a) (is-len : len ≡ length w) where
-    is_size : length (output a places) ≡ len + 17 * n
+    is_size : length (output a places) ≡ len + 17 * length pages
     is_size = size ∙ omega (arith, ap length is-w)
 
-    pub no_room : length d < len + 17 * n → (0 ≡ output_length a places d) × ((d ≡ output_in a places d) × AtFront 0 d)
+    pub no_room : length d < len + 17 * length pages → (0 ≡ output_length a places d) × ((d ≡ output_in a places d) × AtFront 0 d)
     unfolding output_length output_in
     no_room h = rw (lt-leb (length (output a places)) (length d) (omega (arith, is_size))) (refl, (refl, at_front 0 d (omega arith)))
 
     -- the first line, then those of the pages
-    pub put_both : len + 17 * n ≤ length d → (first all : List ℕ) → first ≡ paste d 0 w (length w) → all ≡ paste first len lines (17 * n)
-        → (len + 17 * n ≡ output_length a places d) × ((all ≡ output_in a places d) × AtFront (len + 17 * n) all)
+    pub put_both : len + 17 * length pages ≤ length d → (first all : List ℕ) → first ≡ paste d 0 w (length w) → all ≡ paste first len lines (17 * length pages)
+        → (len + 17 * length pages ≡ output_length a places d) × ((all ≡ output_in a places d) × AtFront (len + 17 * length pages) all)
     unfolding output_length output_in
     put_both room first all is-first is_all =
+        let n = length pages in
         let whole = w ++ lines in
+        let many = lines_length pages in
         let one : first ≡ paste d 0 whole len =
         is-first ∙ rw is-len (ap (λ (t : List ℕ). t ++ drop (0 + length w) d) (take_all (length w) w (omega arith) ∙ sym (take-append_seam w lines))) in
         let behind : drop len whole ≡ lines = rw is-len (drop-append_seam w lines) in
         let more = paste_more d 0 whole len (17 * n) lines len (omega arith) (omega arith) (omega (arith, length-append w lines)) (sym (ap (take (17 * n)) behind)) in
         let everything : take (len + 17 * n) whole ≡ output a places =
-        take_all (len + 17 * n) whole (omega (arith, length-append w lines, lines_are)) ∙ ap (◌++ lines) is-w ∙ sym is_output in
+        take_all (len + 17 * n) whole (omega (arith, length-append w lines, many)) ∙ ap (◌++ lines) is-w ∙ sym is_output in
         let e : length (output a places) ≡ 0 + (len + 17 * n) = is_size ∙ omega arith in
         let same : all ≡ output a places ++ drop (length (output a places)) d =
         is_all ∙ ap (λ (x : List ℕ). paste x len lines (17 * n)) one ∙ more ∙ rw e (ap (λ (t : List ℕ). t ++ drop (0 + (len + 17 * n)) d) everything) in

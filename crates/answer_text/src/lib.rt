@@ -69,7 +69,7 @@ fn decimal(n: u32) -> Digits
     while 10 <= left {
         start -= 1;
         bytes[start] = digit(left % 10);
-        left = left / 10;
+        left /= 10;
     }
     start -= 1;
     bytes[start] = digit(left);
@@ -82,16 +82,9 @@ fn with_text(line: Line, s: &[u8]) -> Line
     ensures { (result.len ≡ line.len + length s.now) × (written result ≡ written line ++ s.now) }
 {
     let mut bytes = line.bytes;
-    let len = line.len;
-    let mut i = 0;
-    while i < s.len() {
-        bytes[len + i] = s[i];
-        i += 1;
-    }
-    Line {
-        bytes,
-        len: len + i,
-    }
+    let len = line.len + s.len();
+    bytes[line.len..len].copy_from_slice(s);
+    Line { bytes, len }
 }
 
 // A line with a number behind it.
@@ -100,9 +93,7 @@ fn with_number(line: Line, n: u32) -> Line
     ensures { (result.len ≤ line.len + 10) × (written result ≡ written line ++ Text·decimal n) }
 {
     let d = decimal(n);
-    let bytes = d.bytes;
-    let start = d.start;
-    with_text(line, &bytes[start..])
+    with_text(line, &d.bytes[d.start..])
 }
 
 fn empty() -> Line
@@ -143,26 +134,12 @@ fn page_line(a: u64) -> [u8; 17]
     ensures { result ≡ page_line a }
 {
     let mut bytes = [b'\n'; 17];
-    let mut at = ADDRESS_DIGITS;
     let mut left = a;
-    while 0 < at {
-        at -= 1;
+    for at in (0..ADDRESS_DIGITS).rev() {
         bytes[at] = hex_digit(left % 16);
-        left = left / 16;
+        left /= 16;
     }
     bytes
-}
-
-// Puts s into the buffer from `at` on.
-fn put(out: &mut [u8], at: usize, s: &[u8])
-    requires { at + length s.now ≤ length out.old }
-    ensures { out.new ≡ paste out.old at s.now (length s.now) }
-{
-    let mut i: usize = 0;
-    while i < s.len() {
-        out[at + i] = s[i];
-        i += 1;
-    }
 }
 
 fn line_length(line: Line) -> usize
@@ -177,33 +154,28 @@ fn put_line(out: &mut [u8], line: Line)
     requires { (line.len ≤ 48) × (length (written line) ≤ length out.old) }
     ensures { out.new ≡ paste out.old 0 (written line) (length (written line)) }
 {
-    let bytes = line.bytes;
-    let len = line.len;
-    put(out, 0, &bytes[..len]);
+    out[..line.len].copy_from_slice(&line.bytes[..line.len]);
 }
 
-// Puts the lines of the first n pages into the buffer from `at` on.
-fn put_pages(out: &mut [u8], at: usize, pages: &[u64], n: usize)
-    requires { (n ≤ length pages.now) × (at + 17 * n ≤ length out.old) }
-    ensures { out.new ≡ paste out.old at (page_lines (take n pages.now)) (17 * n) }
+// Puts the lines of pages into the buffer from `at` on.
+fn put_pages(out: &mut [u8], at: usize, pages: &[u64])
+    requires { at + 17 * length pages.now ≤ length out.old }
+    ensures { out.new ≡ paste out.old at (page_lines pages.now) (17 * length pages.now) }
 {
-    let mut i: usize = 0;
-    while i < n {
-        let line = page_line(pages[i]);
-        put(out, at + PAGE_LINE * i, &line);
-        i += 1;
+    for (i, page) in pages.iter().enumerate() {
+        let from = at + PAGE_LINE * i;
+        out[from..from + PAGE_LINE].copy_from_slice(&page_line(*page));
     }
 }
 
-// How many of the first places of a page list have pages that are shown: none on a refusal.
-fn shown(a: Answer, pages: &[u64]) -> usize
-    ensures { (result ≤ length pages.now) × (take result pages.now ≡ shown_pages a pages.now) }
+// The pages at the front of a page list that are shown: none on a refusal.
+fn shown(a: Answer, pages: &[u64]) -> &[u64]
+    ensures { result.now ≡ shown_pages a pages.now }
 {
     if a.number != 0 {
-        return 0;
+        return &pages[..0];
     }
-    let n = a.pages as usize;
-    if n < pages.len() { n } else { pages.len() }
+    &pages[..pages.len().min(a.pages as usize)]
 }
 
 // Writes the output for an answer and a page list to the front of the buffer and gives its length. Where the buffer has no room for it, the buffer
@@ -215,16 +187,16 @@ fn output_in(a: Answer, pages: &[u64], out: &mut [u8]) -> usize
 {
     let line = first_line(a);
     let len = line_length(line);
-    let n = shown(a, pages);
+    let shown = shown(a, pages);
     if out.len() < len {
         return 0;
     }
-    if (out.len() - len) / PAGE_LINE < n {
+    if (out.len() - len) / PAGE_LINE < shown.len() {
         return 0;
     }
     put_line(out, line);
-    put_pages(out, len, pages, n);
-    len + PAGE_LINE * n
+    put_pages(out, len, shown);
+    len + PAGE_LINE * shown.len()
 }
 
 // The whole output at the front of the buffer that a program lends, whose other bytes stay: how many bytes it has. There is room for every answer.

@@ -2,7 +2,7 @@
 // the bytes of a file are is the operating system's; what is answered for a capture is said by the contracts of `capture`.
 #![tactic(auto)]
 
-ghost use Rattle.std.specs.Prelude.{◌≡◌, ◌<◌, take, IfOk, IfSome, IsTrue, IsUtf8};
+ghost use Rattle.std.specs.Prelude.{◌≡◌, ℕ, ◌<◌, List, take, IfOk, IfSome, IsTrue, IsUtf8};
 ghost use Rattle.std.specs.Counts.{IsPrefixLen};
 ghost use Rattle.std.specs.Io.KnownBytes.{Consumes, IsAtEnd};
 ghost use Rattle.capture_io.specs.Unread.{words, unread_line};
@@ -64,14 +64,12 @@ const NUMBERED: &[u8] = b" (os error ";
 fn words(text: &[u8]) -> &[u8]
     ensures { result.now ≡ words text.now }
 {
-    let mut end = 0;
-    while end < text.len() {
+    for end in 0..text.len() {
         if text[end..].starts_with(NUMBERED) {
-            break;
+            return &text[..end];
         }
-        end += 1;
     }
-    &text[..end]
+    text
 }
 
 // The line for standard error of a name that could not be read: the name, a colon, and why, of what std shows for the error.
@@ -83,5 +81,14 @@ pub fn unread_line(alloc: Global, name: &[u8], why: &[u8]) -> Result<Vec<u8>, Al
     line.extend_from_slice(b": ")?;
     line.extend_from_slice(words(why))?;
     line.extend_from_slice(b"\n")?;
+    Ok(line)
+}
+
+// The same for an error of std, whose text is what std shows for it.
+pub fn unread(alloc: Global, name: &[u8], why: &io::Error) -> io::Result<Vec<u8>>
+    ensures { IfOk result (λ line. (text : List ℕ) × (line.items ≡ unread_line name.now text)) }
+{
+    let text = format!(in alloc; "{why}")?;
+    let line = unread_line(alloc, name, text.as_bytes())?;
     Ok(line)
 }

@@ -5,16 +5,16 @@ use Rattle.answer_text.proofs.output_in.Goals as goal
 
 pub returns-then-out-len : goal.returns-then-out-len
 returns-then-out-len c =
-    let said = no_room _ _ c.args.out.now _ c.shown-n.ensures.0 c.shown-n.ensures.1 _ _ c.first_line-line.ensures.0 c.line_length-len.ensures (omega arith) in
+    let said = no_room _ _ c.args.out.now _ c.shown-shown.ensures _ _ c.first_line-line.ensures.0 c.line_length-len.ensures (omega arith) in
     record { length = said.0; text = said.1.0; front = said.1.1 }
 
 pub returns-then-out-len-2 : goal.returns-then-out-len-2
 returns-then-out-len-2 c =
-    let said = no_room _ _ c.args.out.now _ c.shown-n.ensures.0 c.shown-n.ensures.1 _ _ c.first_line-line.ensures.0 c.line_length-len.ensures (omega arith) in
+    let said = no_room _ _ c.args.out.now _ c.shown-shown.ensures _ _ c.first_line-line.ensures.0 c.line_length-len.ensures (omega arith) in
     record { length = said.0; text = said.1.0; front = said.1.1 }
 
 pub returns : goal.returns
 returns c =
-    let said = put_both _ _ c.args.out.now _ c.shown-n.ensures.0 c.shown-n.ensures.1 _ _ c.first_line-line.ensures.0 c.line_length-len.ensures (omega arith) _ _
+    let said = put_both _ _ c.args.out.now _ c.shown-shown.ensures _ _ c.first_line-line.ensures.0 c.line_length-len.ensures (omega arith) _ _
     c.put_line.ensures c.put_pages.ensures in
     record { length = said.0; text = said.1.0; front = said.1.1 }

@@ -1,21 +1,19 @@
 -- `words` meets its contract: the loop ends where the number begins, or at the end of the text.
-use Rattle.std.proofs.Common.{arith}
+use Rattle.std.proofs.Common.{sym, ◌∙◌, take_all}
 use Rattle.capture_io.proofs.Numbered.{stopped, onward, ended, none_left, tested}
 use Rattle.capture_io.proofs.words.Goals as goal
-use Rattle.capture_io.proofs.words.Goals.{else-loop-end-test, then-loop-end-test+then-starts_with}
 
 pub loop-end-preserved : goal.loop-end-preserved
-loop-end-preserved c = (
-  omega arith,
-  onward c.args.text.now c.loop-end.end c.loop-end-test.true
-      (tested c.args.text.now c.loop-end.end _ _ c.starts_with.ensures.value c.if-starts_with.false) c.loop-end.invariant.1,
-)
+loop-end-preserved c =
+    onward c.args.text.now c.loop-end.end c.loop-end-test.true
+    (tested c.args.text.now c.loop-end.end _ _ c.starts_with.ensures.value c.if-starts_with.false) c.loop-end.invariant
+
+pub returns-then-starts_with : goal.returns-then-starts_with
+returns-then-starts_with c =
+    ended c.args.text.now c.loop-end.end (stopped _ (tested c.args.text.now c.loop-end.end _ _ c.starts_with.ensures.value c.if-starts_with.true)) c.loop-end.invariant
 
 pub returns : goal.returns
 returns c =
     let text = c.args.text.now in
     let i = c.loop-end.end in
-    elim c.loop-end-test.branch [
-      | else-loop-end-test w ↦ ended text i (none_left text i (omega arith)) c.loop-end.invariant.1
-      | then-loop-end-test+then-starts_with w ↦ ended text i (stopped _ (tested text i _ _ w.starts_with.ensures.value w.if-starts_with.true)) c.loop-end.invariant.1
-    ]
+    sym (take_all i text c.loop-end-test.false) ∙ ended text i (none_left text i c.loop-end-test.false) c.loop-end.invariant

@@ -51,6 +51,7 @@ const END_SIZE: u64 = 8;
 const LOW_LIMIT: u64 = 0x1_0000_0000;
 
 // Whether a size is at least 8, and as many bytes from `at` on end at or before `end`.
+#[tactic(auto, unfolding(crate::specs::Heap::size_fits))]
 fn size_fits(at: usize, size: u64, end: usize) -> bool
     ensures { result ≡ size_fits at size end }
 {
@@ -61,6 +62,7 @@ fn size_fits(at: usize, size: u64, end: usize) -> bool
 }
 
 // The fields of OsSinitData, of its bytes after its size.
+#[tactic(auto, unfolding(crate::specs::Heap::fields_of))]
 fn fields(s: &[u8]) -> OsSinitData
     ensures { result ≡ fields_of s.now }
 {
@@ -81,6 +83,7 @@ fn fields(s: &[u8]) -> OsSinitData
     }
 }
 
+#[tactic(auto, unfolding(crate::specs::Heap::version_known))]
 fn known(version: u64) -> bool
     ensures { result ≡ version_known version }
 {
@@ -105,12 +108,14 @@ fn elements_end(s: &[u8]) -> bool
     false
 }
 
+#[tactic(auto, unfolding(crate::specs::Heap::low_placed))]
 fn low_placed(pmr: Range) -> bool
     ensures { result ≡ low_placed pmr }
 {
     pmr.size == 0 || range::ends_by(pmr, LOW_LIMIT)
 }
 
+#[tactic(auto, unfolding(crate::specs::Heap::high_placed))]
 fn high_placed(pmr: Range) -> bool
     ensures { result ≡ high_placed pmr }
 {
@@ -118,6 +123,7 @@ fn high_placed(pmr: Range) -> bool
 }
 
 // Whether each PMR is unused or in its place.
+#[tactic(auto, unfolding(crate::specs::Heap::pmrs_placed))]
 fn placed(o: OsSinitData) -> bool
     ensures { result ≡ pmrs_placed o }
 {
@@ -133,6 +139,7 @@ fn placed(o: OsSinitData) -> bool
 }
 
 // Rules 3 to 5, of the bytes of OsSinitData.
+#[tactic(auto, unfolding(crate::specs::Heap::part_answer, rules::specs::Rules::answer_for))]
 fn judge(part: &[u8]) -> Result<OsSinitData, Refusal>
     ensures { numbered result ≡ part_answer part.now }
 {

@@ -19,6 +19,7 @@ const UUID: [u8; 16] = [
 ];
 
 // Rule 12.
+#[tactic(auto, unfolding(crate::specs::Header::size_tests, rules::specs::Rules::all))]
 pub fn size_holds(size: u64) -> bool
     ensures { result ≡ all (size_tests size) }
 {
@@ -44,6 +45,7 @@ fn is_mapped(image: Image, a: u64) -> bool
 }
 
 // Rule 22: where the header stands.
+#[tactic(auto, unfolding(crate::specs::Header::place_tests, rules::specs::Rules::all))]
 fn place_holds(image: Image, base: u64) -> bool
     ensures { result ≡ all (place_tests image base) }
 {
@@ -54,6 +56,7 @@ fn place_holds(image: Image, base: u64) -> bool
 }
 
 // Rule 22: what the bytes h of the header say.
+#[tactic(auto, unfolding(crate::specs::Header::field_tests, rules::specs::Rules::all))]
 fn fields_hold(h: &[u8], image: Image, size: u64, least: u64) -> bool
     ensures { result ≡ all (field_tests h.now image size least) }
 {

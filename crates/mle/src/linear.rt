@@ -8,6 +8,7 @@ use pages::Tables;
 use range::PAGE_SIZE;
 
 // The physical address of the linear page l.
+#[tactic(auto, unfolding(crate::specs::Image::address_at))]
 pub(crate) fn address(w: &[u8], image: Image, l: u64) -> u64
     ensures { result ≡ address_at w.now image l }
 {

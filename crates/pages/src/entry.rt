@@ -4,12 +4,14 @@ ghost use Rattle.pages.specs.Entry.{present_of, address_of, reserved_clear};
 
 use crate::Kind;
 
+#[tactic(auto, unfolding(crate::specs::Entry::present_of))]
 pub(crate) fn present(e: u64) -> bool
     ensures { result ≡ present_of e }
 {
     e & 1 == 1
 }
 
+#[tactic(auto, unfolding(crate::specs::Entry::address_of))]
 pub fn address(e: u64) -> u64
     ensures { result ≡ address_of e }
 {
@@ -17,6 +19,7 @@ pub fn address(e: u64) -> u64
 }
 
 // Whether the bits that the kind reserves are 0.
+#[tactic(auto, unfolding(crate::specs::Entry::reserved_clear))]
 pub(crate) fn reserved_clear(kind: Kind, e: u64) -> bool
     ensures { result ≡ reserved_clear kind e }
 {

@@ -139,6 +139,7 @@ impl<'a> Walker<'a> {
     }
 
     // All entries of a level.
+    #[tactic(auto, unfolding(crate::specs::Tables::found_in))]
     fn level(&self, kind: Kind, p: Progress) -> Result<Progress, Refusal>
         ensures { Tried (extent self.now.tables.window) (told self.now) p result (found_in kind self.now.tables.window.bytes.now self.now.tables.window.base self.now.tables.base) }
     {

@@ -13,6 +13,7 @@ const LOW_BASE: u64 = 0xA0000;
 const LOW_SIZE: u64 = 0x60000;
 
 // Rule 17: clear of the forbidden range below 1 MiB, of the heap, of the module and of the reserved ranges.
+#[tactic(auto, unfolding(crate::specs::Memory::allowed))]
 pub(crate) fn is_allowed(m: MemoryRanges, reserved: &[u64], a: u64) -> bool
     ensures { result ≡ allowed (memory_of m reserved.now) a }
 {
@@ -37,6 +38,7 @@ pub(crate) fn is_protected(m: MemoryRanges, pages: Range) -> bool
 }
 
 // Rule 20, of the table at a: any one of the regions will do, whichever holds the pages.
+#[tactic(auto, unfolding(crate::specs::Memory::protected))]
 pub(crate) fn is_table_protected(m: MemoryRanges, a: u64) -> bool
     ensures { (reserved : List ℕ) → result ≡ protected (regions (memory_of m reserved)) a }
 {

@@ -41,6 +41,7 @@ impl Progress {
     }
 
     // Rule 19: the first page, or the one after the last.
+    #[tactic(auto, unfolding(crate::specs::Rules::follows))]
     pub(crate) fn page_follows(self, l: u64) -> bool
         ensures { result ≡ follows self.first self.count l }
     {

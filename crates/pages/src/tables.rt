@@ -19,6 +19,7 @@ pub struct Tables<'a> {
 
 impl<'a> Tables<'a> {
     // Entry i of the n of the table at a; 0, which is not present, where there is none.
+    #[tactic(auto, unfolding(crate::specs::Tables::read_of))]
     fn read(&self, a: u64, n: u64, i: u64) -> u64
         requires { n ≤ entries }
         ensures { result ≡ read_of self.now.window.bytes.now self.now.window.base a n i }
@@ -37,6 +38,7 @@ impl<'a> Tables<'a> {
     }
 
     // Entry i of the table that e names.
+    #[tactic(auto, unfolding(crate::specs::Tables::under_of))]
     fn under(&self, e: u64, i: u64) -> u64
         ensures { result ≡ under_of self.now.window.bytes.now self.now.window.base e i }
     {
@@ -47,12 +49,14 @@ impl<'a> Tables<'a> {
         }
     }
 
+    #[tactic(auto, unfolding(crate::specs::Tables::pointer_at))]
     fn pointer(&self, l: u64) -> u64
         ensures { result ≡ pointer_at self.now.window.bytes.now self.now.window.base self.now.base l }
     {
         self.read(self.base, POINTERS, l)
     }
 
+    #[tactic(auto, unfolding(crate::specs::Tables::directory_at))]
     pub(crate) fn directory(&self, l: u64) -> u64
         ensures { result ≡ directory_at self.now.window.bytes.now self.now.window.base self.now.base l }
     {
@@ -60,6 +64,7 @@ impl<'a> Tables<'a> {
     }
 
     // The page-table entry of the linear page l; 0, which is not present, where there is none.
+    #[tactic(auto, unfolding(crate::specs::Tables::page_at))]
     pub fn page(&self, l: u64) -> u64
         ensures { result ≡ page_at self.now.window.bytes.now self.now.window.base self.now.base l }
     {

@@ -1,21 +1,13 @@
--- What the tests on ranges say of the addresses in them, and when a comparison in the code gives what such a test gives.
+-- What the tests on ranges say of the addresses in them.
 use Prim.Native.Nat.{ℕ, ◌-◌, ◌≤◌, ◌<◌, max}
 use mathlib.Core.Path.{◌≡◌, refl, sym, ◌∙◌}
 use mathlib.Core.Logic.{◌↔◌}
-use mathlib.Core.Bool.{Bool, true, false, ◌||◌, true≢false, not-eq-not, or_comm, and-eq-true_iff}
+use mathlib.Core.Bool.{Bool, true, false, ◌||◌, true≢false, not-eq-not, and-eq-true_iff}
 use native.Mathlib.Omega.{arith}
 use borrow.Author.Tests.{leb-true, leb-false, le-leb, lt-leb, eqb-false, ne_eqb}
 use lib.Dec.{leb, eqb}
 use Rattle.range.specs.declared.Range.{Range}
 use Rattle.range.specs.Range.{end_of, Has, inside_of, clear_of, ends_by}
-
--- a test that is true where x ≤ y and false where not gives what the comparison gives
-pub leb_is : (x y : ℕ) (test : Bool) → (x ≤ y → test ≡ true) → (y < x → test ≡ false) → leb x y ≡ test
-leb_is x y test f g = by (leb x y) refl
-  where
-    by : (t : Bool) → leb x y ≡ t → t ≡ test
-    by true e = sym (f (leb-true x y e))
-    by false e = sym (g (leb-false x y e))
 
 pub ends_exactly : (a : Range) (limit : ℕ) → (ends_by a limit ≡ true) ↔ (end_of a ≤ limit)
 unfolding ends_by
@@ -53,11 +45,6 @@ module _ (a b : Range) where
         lt-leb (end_of a) b.base (omega arith),
         lt-leb (end_of b) a.base (omega arith),
       )
-
-  pub clear_sym : clear_of a b ≡ clear_of b a
-  unfolding clear_of
-  clear_sym =
-      rw (or_comm (eqb a.size 0) (eqb b.size 0), or_comm (leb (end_of a) b.base) (leb (end_of b) a.base))
 
   -- ranges that are not clear of each other share the first address of the one that begins later
   sharing : clear_of a b ≡ false → Has a (max a.base b.base) × Has b (max a.base b.base)

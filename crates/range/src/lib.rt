@@ -22,6 +22,7 @@ pub struct Range {
 }
 
 // Whether a lies inside b.
+#[tactic(auto, unfolding(crate::specs::Range::inside_of))]
 pub fn inside(a: Range, b: Range) -> bool
     ensures { result ≡ inside_of a b }
 {
@@ -35,6 +36,7 @@ pub fn inside(a: Range, b: Range) -> bool
 }
 
 // Whether a and b have no byte in common.
+#[tactic(auto, unfolding(crate::specs::Range::clear_of))]
 pub fn clear(a: Range, b: Range) -> bool
     ensures { result ≡ clear_of a b }
 {
@@ -52,6 +54,7 @@ pub fn clear(a: Range, b: Range) -> bool
 }
 
 // Whether a ends at or below a limit.
+#[tactic(auto, unfolding(crate::specs::Range::ends_by))]
 pub fn ends_by(a: Range, limit: u64) -> bool
     ensures { result ≡ ends_by a limit }
 {

@@ -85,6 +85,7 @@ fn edition_of(acm: &[u8]) -> Edition
 }
 
 // Rule 6: base and length.
+#[tactic(auto, unfolding(crate::specs::Rules::place, rules::specs::Rules::all))]
 pub(crate) fn place_holds(acm: &[u8], base: u64, capacity: u64) -> bool
     ensures { result ≡ all (place acm.now base capacity) }
 {
@@ -106,6 +107,7 @@ pub(crate) fn place_holds(acm: &[u8], base: u64, capacity: u64) -> bool
 }
 
 // Rule 7: the numbers of the header.
+#[tactic(auto, unfolding(crate::specs::Rules::header, rules::specs::Rules::all))]
 pub(crate) fn header_holds(acm: &[u8]) -> bool
     ensures { result ≡ all (header acm.now) }
 {
@@ -129,6 +131,7 @@ pub(crate) fn header_holds(acm: &[u8]) -> bool
 }
 
 // E: the end of the header and the scratch area.
+#[tactic(auto, unfolding(crate::specs::Module::E))]
 pub(crate) fn header_end(acm: &[u8]) -> u64
     ensures { (result ≡ E acm.now) × (result < 2 ^ 36) }
 {
@@ -136,6 +139,7 @@ pub(crate) fn header_end(acm: &[u8]) -> u64
 }
 
 // Rule 8: the place of the GDT.
+#[tactic(auto, unfolding(crate::specs::Rules::gdt, rules::specs::Rules::all))]
 pub(crate) fn gdt_holds(acm: &[u8]) -> bool
     ensures { result ≡ all (gdt acm.now) }
 {
@@ -155,6 +159,7 @@ pub(crate) fn gdt_holds(acm: &[u8]) -> bool
 }
 
 // Rule 8: the entry point.
+#[tactic(auto, unfolding(crate::specs::Rules::entry, rules::specs::Rules::all))]
 pub(crate) fn entry_holds(acm: &[u8]) -> bool
     ensures { result ≡ all (entry acm.now) }
 {
@@ -166,6 +171,7 @@ pub(crate) fn entry_holds(acm: &[u8]) -> bool
 }
 
 // Rule 8: the selector names two segments of the GDT.
+#[tactic(auto, unfolding(crate::specs::Rules::selector, rules::specs::Rules::all))]
 pub(crate) fn selector_holds(acm: &[u8]) -> bool
     ensures { result ≡ all (selector acm.now) }
 {

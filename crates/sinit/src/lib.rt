@@ -50,6 +50,7 @@ fn judge(
 
 // The values of the module at a base, under a capacity of the ACRAM, for a chipset and a version of OsSinitData, or the first of rules 6 to 11 that
 // fails.
+#[tactic(auto, unfolding(crate::specs::Rules::module_of, rules::specs::Rules::answer_for))]
 pub fn read(
     acm: &[u8],
     base: u64,

@@ -29,6 +29,7 @@ const MOST_ENTRIES: u64 = 64;
 const ENTRY_SIZE: u64 = 16;
 
 // Whether n bytes at an offset are inside the module.
+#[tactic(auto, unfolding(crate::specs::Rules::inside))]
 fn inside(acm: &[u8], at: u64, n: u64) -> bool
     ensures { result ≡ spec.inside acm.now at n }
 {
@@ -71,6 +72,7 @@ fn os_sinit_data_ver(acm: &[u8]) -> u64
 }
 
 // Rule 9: the information table.
+#[tactic(auto, unfolding(crate::specs::Rules::table, rules::specs::Rules::all))]
 fn table_holds(acm: &[u8]) -> bool
     ensures { result ≡ all (table acm.now) }
 {
@@ -88,6 +90,7 @@ fn table_holds(acm: &[u8]) -> bool
 }
 
 // Rule 9: the chipset list.
+#[tactic(auto, unfolding(crate::specs::Rules::list, rules::specs::Rules::all))]
 fn list_holds(acm: &[u8]) -> bool
     ensures { result ≡ all (list acm.now) }
 {
@@ -103,6 +106,7 @@ fn list_holds(acm: &[u8]) -> bool
 }
 
 // Whether the revision of an entry matches that of the chipset; flag bit 0 says how they are compared.
+#[tactic(auto, unfolding(crate::specs::Rules::revision_matches))]
 fn revision_matches(flags: u64, revision: u64, chipset: u64) -> bool
     ensures { result ≡ revision_matches flags revision chipset }
 {
@@ -141,6 +145,7 @@ fn chipset_listed(acm: &[u8], chipset: Chipset) -> bool
 }
 
 // Rule 11: the version of OsSinitData.
+#[tactic(auto, unfolding(crate::specs::Rules::supported))]
 fn version_supported(acm: &[u8], version: u64) -> bool
     ensures { result ≡ supported acm.now version }
 {

@@ -18,9 +18,6 @@ use Rattle.heap.proofs.judge.Goals as goal
 abbrev number : List ℕ → ℕ
 number part = first_failing (part_rules part)
 
-short : (part : List ℕ) → leb 108 (length part) ≡ false → 3 ≡ number part
-short part h = rw h
-
 -- the tests in turn, in the code's terms, each with the number that is left to decide
 module _ (part s : List ℕ) (o : OsSinitData) (is-rest : s ≡ take (length part - 8) (drop 8 part)) (long : leb 108 (length part) ≡ true)
     (is-fields : o ≡ fields_of s) (k : Bool) (is_known : k ≡ version_known o.version) where
@@ -29,9 +26,6 @@ module _ (part s : List ℕ) (o : OsSinitData) (is-rest : s ≡ take (length par
 
   from_version : number part ≡ cond k (cond (elements_end (drop 92 s)) (cond (pmrs_placed o) 0 5) 4) 3
   from_version = rw (long, ← after, ← is-fields, ← is_known)
-
-  unknown : k ≡ false → 3 ≡ number part
-  unknown n = rw (from_version, n)
 
   module _ (known : k ≡ true) (e : Bool) (is-end : e ≡ elements_end (take (length s - 92) (drop 92 s))) where
     from_elements : number part ≡ cond e (cond (pmrs_placed o) 0 5) 4
@@ -50,18 +44,6 @@ module _ (part s : List ℕ) (o : OsSinitData) (is-rest : s ≡ take (length par
       accepted : p ≡ true → numbered (Ok o) ≡ part_answer part
       unfolding part_answer
       accepted n = let e : 0 ≡ number part = rw (from_pmrs, n) in rw (is-fields ∙ ap fields_of after) (value_after (fields_of (after_size part)) (number part) e)
-
-pub returns-in_err-require : goal.returns-in_err-require
-unfolding part_answer
-returns-in_err-require c =
-    rule_at _ _ _ _ (err_from_is_err_and c.from_residual.result c.from_residual.ensures.1) c.in_err-require.ensures (short _)
-
-pub returns-in_err-require-2 : goal.returns-in_err-require-2
-unfolding part_answer
-returns-in_err-require-2 c =
-    let from = c.from_residual-in_err-require-2 in
-    rule_at _ _ _ _ (err_from_is_err_and from.result from.ensures.1) c.in_err-require-2.ensures
-    (unknown _ _ _ refl (held _ _ c.in_ok-require.ensures) c.fields-o.ensures _ c.known.ensures)
 
 pub returns-in_err-require-3 : goal.returns-in_err-require-3
 unfolding part_answer

@@ -12,7 +12,7 @@ loop-k-init c = none_filled _ ranges_at (2 * most_reserved)
 
 pub loop-k-preserved : goal.loop-k-preserved
 loop-k-preserved c =
-  rw c.loop-k.invariant (one_filled _ ranges_at (2 * most_reserved) _ _ (omega (arith, c.range_count-count.ensures.0, c.requires)) c.number_or_zero.ensures.0)
+    rw c.loop-k.invariant (one_filled _ ranges_at (2 * most_reserved) _ _ (omega (arith, c.range_count-count.ensures.0, c.requires)) c.number_or_zero.ensures.0)
 
 pub returns : goal.returns
 returns c =

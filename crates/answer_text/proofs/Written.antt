@@ -3,7 +3,7 @@ use Prim.Native.Nat.{ℕ, zero, suc, ◌+◌, ◌*◌, ◌/◌, ◌<◌, ◌≤�
 use Rattle.std.proofs.lemmas.List.{take_min}
 use mathlib.Core.Path.{◌≡◌, refl, sym, ◌∙◌, ap, ap₂}
 use mathlib.Core.List.{List, [], ◌∷◌, ◌++◌, append_assoc}
-use native.Mathlib.Nat.{add_assoc, min_comm}
+use native.Mathlib.Nat.{add_assoc, min_comm, zero-add}
 use native.Mathlib.Omega.{arith}
 use borrow.Author.Tests.{le-leb, lt-leb, eq-eqb, ne_eqb}
 use lib.ListN.{length, take, drop, get_or, length-append}
@@ -79,26 +79,27 @@ module _ (a : Answer) (places d pages : List ℕ) (is-shown : pages ≡ shown_pa
   size : length (output a places) ≡ length (first_line a) + 17 * length pages
   size = ap length is_output ∙ length-append (first_line a) lines ∙ omega (arith, lines_length pages)
 
-  -- by the first line that was worked out, and its length
-  module _ (w : List ℕ) (len : ℕ) (is-w : w ≡ first_line a) (is-len : len ≡ length w) where
-    is_size : length (output a places) ≡ len + 17 * length pages
+  -- by the first line that was worked out
+  module _ (w : List ℕ) (is-w : w ≡ first_line a) where
+    is_size : length (output a places) ≡ length w + 17 * length pages
     is_size = size ∙ omega (arith, ap length is-w)
 
-    pub no_room : length d < len + 17 * length pages → (0 ≡ output_length a places d) × ((d ≡ output_in a places d) × AtFront 0 d)
+    pub no_room : length d < length w + 17 * length pages → (0 ≡ output_length a places d) × ((d ≡ output_in a places d) × AtFront 0 d)
     unfolding output_length output_in
     no_room h = rw (lt-leb (length (output a places)) (length d) (omega (arith, is_size))) (refl, (refl, at_front 0 d (omega arith)))
 
     -- the first line, then those of the pages
-    pub put_both : len + 17 * length pages ≤ length d → (first all : List ℕ) → first ≡ paste d 0 w (length w) → all ≡ paste first len lines (17 * length pages)
-        → (len + 17 * length pages ≡ output_length a places d) × ((all ≡ output_in a places d) × AtFront (len + 17 * length pages) all)
+    pub put_both : length w + 17 * length pages ≤ length d → (y all : List ℕ) → y ≡ w → all ≡ paste (y ++ drop (length w) d) (length w) lines (17 * length pages)
+        → (length w + 17 * length pages ≡ output_length a places d) × ((all ≡ output_in a places d) × AtFront (length w + 17 * length pages) all)
     unfolding output_length output_in
-    put_both room first all is-first is_all =
+    put_both room y all is-y is_all =
         let n = length pages in
+        let len = length w in
         let whole = w ++ lines in
         let many = lines_length pages in
-        let one : first ≡ paste d 0 whole len =
-        is-first ∙ rw is-len (ap (λ (t : List ℕ). t ++ drop (0 + length w) d) (take_all (length w) w (omega arith) ∙ sym (take-append_seam w lines))) in
-        let behind : drop len whole ≡ lines = rw is-len (drop-append_seam w lines) in
+        let one : y ++ drop len d ≡ paste d 0 whole len =
+        ap₂ (λ (t : List ℕ) (k : ℕ). t ++ drop k d) (is-y ∙ sym (take-append_seam w lines)) (sym (zero-add len)) in
+        let behind : drop len whole ≡ lines = drop-append_seam w lines in
         let more = paste_more d 0 whole len (17 * n) lines len (omega arith) (omega arith) (omega (arith, length-append w lines)) (sym (ap (take (17 * n)) behind)) in
         let everything : take (len + 17 * n) whole ≡ output a places =
         take_all (len + 17 * n) whole (omega (arith, length-append w lines, many)) ∙ ap (◌++ lines) is-w ∙ sym is_output in

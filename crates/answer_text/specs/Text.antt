@@ -1,7 +1,7 @@
 -- The text of the answer: the first line, and on permission a line for each page. Every line ends with LF.
 use Rattle.std.specs.Prelude.{ℕ, zero, suc, ◌+◌, ◌*◌, ◌-◌, ◌/◌, ◌%◌, ◌≤◌, ◌≡◌, ◌⊎◌, Bool, cond, List, [], ◌∷◌, ◌++◌, leb, ltb, eqb, length, take, drop}
 use Rattle.answer.specs.declared.Answer.{Answer}
-use Rattle.answer_text.specs.declared.Line.{Line}
+use Rattle.answer_text.specs.declared.line.Line.{Line}
 
 abbrev pub LF : ℕ
 LF = 0x0A

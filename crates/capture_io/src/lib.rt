@@ -14,6 +14,7 @@ use std::{fs, io, str};
 
 // Reads until the buffer is full, the input ends or a read fails: how many bytes stand at the front of the buffer. A read that a signal interrupts
 // counts as one that failed. Of an input whose bytes are known, these are its next ones.
+// It reads in a loop of its own, since `read_exact` and `read_to_end` do not say how much of the input stands in the buffer where a read fails.
 pub fn read_full<R: Read>(input: &mut R, buffer: &mut [u8]) -> usize
     ensures in_bounds { IsPrefixLen result buffer.new }
     ensures bytes { Consumes (R.remaining input.old) (R.remaining input.new) (take result buffer.new) }

@@ -19,9 +19,7 @@ fn stored<R: Files + Print + AllocGlobal>(
     let mut file = match capture_io::open(rt, name) {
         Ok(file) => file,
         Err(why) => {
-            let text = format!(in rt.alloc(); "{why}")?;
-            let line = capture_io::unread_line(rt.alloc(), name, text.as_bytes())?;
-            return errors.write_all(&line);
+            return errors.write_all(&capture_io::unread(rt.alloc(), name, &why)?);
         }
     };
     let mut buffer = [0u8; capture::INPUT];
@@ -33,7 +31,8 @@ fn stored<R: Files + Print + AllocGlobal>(
     rt.write_all(&text[..len])
 }
 
-// The capture that an argument names; whether there is such an argument.
+// The capture that an argument names; whether there is such an argument. It is read into a buffer, since it may be no text, and `env::args` hands
+// out text alone.
 fn argument(
     rt: &(impl Env + Files + Print + AllocGlobal),
     errors: &impl Print,
@@ -51,7 +50,7 @@ fn argument(
 
 fn main(rt: HostRuntime) -> io::Result<()> {
     let errors = rt.stderr();
-    for i in 1..MOST + 1 {
+    for i in 1..=MOST {
         if !argument(&rt, &errors, i)? {
             break;
         }

@@ -1,17 +1,10 @@
 -- `double` meets its contract.
 use Prim.Native.Nat.{ℕ, ◌%◌}
-use native.Mathlib.Omega.{arith}
 use lib.ListN.{length}
 use Rattle.rsa.specs.Words.{value, power}
 use Rattle.rsa.specs.Montgomery.{radix}
 use mathlib.Core.Path.{◌≡◌, ap, ◌∙◌}
 use Rattle.rsa.proofs.montgomery.double.Goals as goal
-
-pub reduce-requires : goal.reduce-requires
-reduce-requires c =
-    let e : power (length c.args.t.now) ≡ radix c.args.n.now = ap power c.requires.0 in
-    let f = rw e at c.double-top.ensures in
-    (c.double-top.auto.t ∙ c.requires.0, omega (arith, f, c.requires.1))
 
 pub returns : goal.returns
 returns c =

@@ -1,6 +1,6 @@
 -- `double_times` meets its contract: after k turns it is 2^k times the number.
 use Prim.Native.Nat.{◌*◌, ◌^◌}
-use mathlib.Core.Path.{◌≡◌, sym, ◌∙◌}
+use mathlib.Core.Path.{◌≡◌, ◌∙◌}
 use native.Mathlib.Omega.{arith}
 use Rattle.rsa.specs.Words.{value}
 use Rattle.rsa.proofs.Products.{remainder_below, times_start, times_next}
@@ -22,10 +22,6 @@ loop-k-preserved c = (
     times_next c.loop-k._k (value c.args.t.now) (value c.args.n.now) c.loop-k.invariant.1.1 c.double.ensures,
   ),
 )
-
-pub shape_of-t : goal.shape_of-t
-shape_of-t c =
-    c.loop-k.invariant.1.0 ∙ sym c.requires.0
 
 pub returns : goal.returns
 returns c =

@@ -2,7 +2,7 @@
 use native.Mathlib.Omega.{arith}
 use Rattle.rsa.proofs.Values.{zeros}
 use Rattle.rsa.proofs.Products.{product_start, product_next, product_end}
-use mathlib.Core.Path.{sym, ◌∙◌}
+use mathlib.Core.Path.{◌∙◌}
 use Rattle.rsa.proofs.montgomery.multiply.Goals as goal
 
 pub loop-x-init : goal.loop-x-init
@@ -28,13 +28,6 @@ loop-x-preserved c =
             c.loop-x-test.true b.invariant.1.1 next.ensures,
       ),
     )
-
-pub reduce-requires : goal.reduce-requires
-reduce-requires c = (c.loop-x.invariant.0, c.loop-x.invariant.1.0)
-
-pub shape_of-t : goal.shape_of-t
-shape_of-t c =
-    c.reduce.auto.t ∙ c.loop-x.invariant.0 ∙ sym c.requires.0.room
 
 pub returns : goal.returns
 returns c =

@@ -1,12 +1,9 @@
 -- `raise` meets its contract: after k turns x is R * s^(4^k) modulo n.
-use mathlib.Core.Path.{sym, ◌∙◌}
+use mathlib.Core.Path.{◌∙◌}
 use native.Mathlib.Omega.{arith}
 use Rattle.rsa.specs.Words.{value}
-use Rattle.rsa.proofs.Products.{raise_start, raise_next, raise_end, odd_words, odd_low, operands}
+use Rattle.rsa.proofs.Products.{raise_start, raise_next, raise_end, odd_low, operands}
 use Rattle.rsa.proofs.montgomery.raise.Goals as goal
-
-pub bounds-n-0 : goal.bounds-n-0
-bounds-n-0 c = odd_words c.args.n.now c.requires.odd
 
 pub inverse-r-requires : goal.inverse-r-requires
 inverse-r-requires c = odd_low c.args.n.now c.requires.odd
@@ -61,14 +58,6 @@ multiply-requires-2 c =
       operands c.args.n.now b.y c.args.s.now v.result b.invariant.1.0.0 c.requires.long c.requires.odd c.requires.below v.ensures,
       b.invariant.1.0.1,
     )
-
-pub shape_of-y : goal.shape_of-y
-shape_of-y c =
-    c.multiply-2.auto.t ∙ c.loop-k.invariant.1.0.0 ∙ sym c.requires.result
-
-pub shape_of-x : goal.shape_of-x
-shape_of-x c =
-    c.loop-k.invariant.1.0.1 ∙ sym c.requires.scratch
 
 pub returns : goal.returns
 returns c =

@@ -5,12 +5,8 @@ use native.Mathlib.Omega.{arith}
 use lib.ListN.{length}
 use Rattle.rsa.specs.Words.{value, power}
 use Rattle.rsa.specs.Montgomery.{radix}
-use Rattle.rsa.proofs.Products.{remainder_below, radix_start, radix_squares, odd_words, operands}
+use Rattle.rsa.proofs.Products.{remainder_below, radix_start, radix_squares, operands}
 use Rattle.rsa.proofs.montgomery.square_radix.Goals as goal
-
-pub high_bit-requires : goal.high_bit-requires
-high_bit-requires c =
-    omega (arith, odd_words c.args.n.now c.requires.odd, c.requires.result)
 
 pub double_times-requires : goal.double_times-requires
 double_times-requires c =

@@ -14,9 +14,6 @@ loop-j-preserved c =
           c.accumulated-sum.result _ _ (omega arith) c.accumulated-sum.ensures c.low.ensures c.high-c.ensures,
     )
 
-pub shape_of-t : goal.shape_of-t
-shape_of-t c = c.loop-j.invariant.0.long
-
 pub returns : goal.returns
 returns c =
     double_end c.args.t.now c.loop-j.t c.loop-j.c c.loop-j.j c.loop-j.invariant.0 c.loop-j.invariant.1 (omega arith)

@@ -6,9 +6,6 @@ use Rattle.rsa.proofs.words.subtract.Goals as goal
 pub loop-j-init : goal.loop-j-init
 loop-j-init c = (starts _, subtract_start)
 
-pub overflow_sub-n : goal.overflow_sub-n
-overflow_sub-n c = omega (arith, c.type_inv.n c.loop-j.j)
-
 pub loop-j-preserved : goal.loop-j-preserved
 loop-j-preserved c =
     let a = c.args in (
@@ -17,9 +14,6 @@ loop-j-preserved c =
           c.accumulated-sum.result _ _ (omega arith) (c.type_inv.n c.loop-j.j).fits
           c.accumulated-sum.ensures c.low.ensures c.high-c.ensures,
     )
-
-pub shape_of-t : goal.shape_of-t
-shape_of-t c = c.loop-j.invariant.0.long
 
 pub returns : goal.returns
 returns c =

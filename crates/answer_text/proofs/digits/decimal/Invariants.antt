@@ -3,7 +3,7 @@ use mathlib.Core.Path.{◌≡◌}
 use mathlib.Core.List.{◌++◌}
 use lib.ListN.{length, drop}
 use Rattle.answer_text.specs.Text.{digits, decimal}
-use Rattle.answer_text.proofs.decimal.Given as goal
+use Rattle.answer_text.proofs.digits.decimal.Given as goal
 
 abbrev pub invariant-loop-left : goal.invariant-loop-left
 invariant-loop-left l =

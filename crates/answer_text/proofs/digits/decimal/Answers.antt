@@ -5,7 +5,7 @@ use mathlib.Core.List.{append-nil}
 use native.Mathlib.Omega.{arith}
 use lib.ListN.{length-set}
 use Rattle.answer_text.proofs.Lines.{tenth, digits_step, digits_end}
-use Rattle.answer_text.proofs.decimal.Goals as goal
+use Rattle.answer_text.proofs.digits.decimal.Goals as goal
 
 pub loop-left-init : goal.loop-left-init
 loop-left-init c = (omega arith, omega arith, omega arith, refl, append-nil _)

@@ -94,6 +94,7 @@ fn known(version: u64) -> bool
 fn elements_end(s: &[u8]) -> bool
     ensures { result ≡ elements_end s.now }
 {
+    // The next element begins where this one's own size says: no iterator of the library steps so.
     let mut at: usize = 0;
     while ELEMENT_HEAD <= s.len() - at {
         let size = field::number_or_zero(s, at + 4, 4);

@@ -14,7 +14,8 @@ use range::Range;
 pub use tables::Tables;
 pub use window::Window;
 
-// Where an entry stands: in the pointer table, in a directory or in a page table.
+// Where an entry stands: in the pointer table, in a directory or in a page table. The rules of the specification are given by cases of the kind, and so
+// is the code for each: a trait with a type for each kind would be longer, and would say the cases less plainly.
 #[derive(Clone, Copy)]
 pub enum Kind {
     Pointer,

@@ -30,7 +30,8 @@ pub struct ModuleData {
     pub acm_version: u64,
 }
 
-// Rules 6 to 11, in this order.
+// Rules 6 to 11, in this order. What a module is held to comes as numbers from three parts of the input, as the specification has it, and only these
+// two functions take all of it.
 fn judge(
     acm: &[u8],
     base: u64,

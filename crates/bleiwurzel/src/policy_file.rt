@@ -6,7 +6,7 @@ ghost use Rattle.policy_answers.specs.Answers.{file_answer, list_answer, element
 ghost use Rattle.policy_answers.specs.Seen.{number_of, count_of, place_of};
 ghost use Rattle.bleiwurzel.specs.Policy.{list_kind, list_fields, element_kind, element_fields, ListNumbersAt, ElementNumbersAt};
 
-use policy_answers::{CUSTOM_TYPE, ElementAnswer, FileAnswer, LAUNCH_TYPE, ListAnswer, STM_TYPE};
+use policy_answers::{CUSTOM_TYPE, ElementAt, ElementBody, FileFault, LAUNCH_TYPE, ListAt, STM_TYPE};
 
 // The number of a string: 0, 26 or 27. `lists` gets the number of its lists, 0 where it is refused, and `place` on 27 the offset of the first field at
 // fault, else 0.
@@ -16,19 +16,15 @@ pub extern "C" fn bleiwurzel_policy(file: &[u8], lists: &mut [u64; 1], place: &m
     ensures lists { lists.new ≡ count_of (file_answer file.now) ∷ [] }
     ensures place { place.new ≡ place_of (file_answer file.now) ∷ [] }
 {
+    *lists = [0];
+    *place = [0];
     match policy_reader::read(file) {
-        FileAnswer::Accepted { lists: n } => {
+        Ok(n) => {
             *lists = [n as u64];
-            *place = [0];
             0
         }
-        FileAnswer::WrongSize => {
-            *lists = [0];
-            *place = [0];
-            26
-        }
-        FileAnswer::NotOfGrammar { place: at } => {
-            *lists = [0];
+        Err(FileFault::WrongSize) => 26,
+        Err(FileFault::NotOfGrammar { place: at }) => {
             *place = [at as u64];
             27
         }
@@ -37,60 +33,40 @@ pub extern "C" fn bleiwurzel_policy(file: &[u8], lists: &mut [u64; 1], place: &m
 
 // The kind of a list, with its numbers in `fields`: 0 where there is none, 1 for an unsigned one, 2 for a signed one. The fields are its offset, its size,
 // its version, the offset and the size of its elements, and where it is signed the counter, the key size and the offsets of key and signature; else zeros.
-fn list_numbers(l: ListAnswer, fields: &mut [u64; 9]) -> u32
+fn list_numbers(l: Option<ListAt>, fields: &mut [u64; 9]) -> u32
     ensures kind { result ≡ list_kind l }
     ensures fields { fields.new ≡ list_fields l }
 {
-    match l {
-        ListAnswer::Unsigned {
-            start,
-            size,
-            version,
-            elements,
-            elements_size,
-        } => {
-            *fields = [
-                start as u64,
-                size as u64,
-                version as u64,
-                elements as u64,
-                elements_size as u64,
-                0,
-                0,
-                0,
-                0,
-            ];
-            1
-        }
-        ListAnswer::Signed {
-            start,
-            size,
-            version,
-            elements,
-            elements_size,
-            counter,
-            key_size,
-            key,
-            signature,
-        } => {
-            *fields = [
-                start as u64,
-                size as u64,
-                version as u64,
-                elements as u64,
-                elements_size as u64,
-                counter as u64,
-                key_size as u64,
-                key as u64,
-                signature as u64,
-            ];
-            2
-        }
-        ListAnswer::Absent => {
-            *fields = [0u64; 9];
-            0
-        }
-    }
+    let Some(l) = l else {
+        *fields = [0; 9];
+        return 0;
+    };
+    let Some(signing) = l.signing else {
+        *fields = [
+            l.start as u64,
+            l.size as u64,
+            l.version as u64,
+            l.elements as u64,
+            l.elements_size as u64,
+            0,
+            0,
+            0,
+            0,
+        ];
+        return 1;
+    };
+    *fields = [
+        l.start as u64,
+        l.size as u64,
+        l.version as u64,
+        l.elements as u64,
+        l.elements_size as u64,
+        signing.counter as u64,
+        signing.key_size as u64,
+        signing.key as u64,
+        signing.signature as u64,
+    ];
+    2
 }
 
 // The list number i.
@@ -113,25 +89,26 @@ pub extern "C" fn bleiwurzel_policy_list_at(file: &[u8], at: usize, fields: &mut
 // The kind of an element, with its numbers in `fields`: 0 where there is none, 1 for a launch element (type 0x10), 2 for a custom one (type 3), 3 for
 // another type, 4 for an STM element (type 0x14). The fields are its offset, its size, its type, its control, of a launch element SINITMinVersion and
 // the reserved byte, and of a launch or an STM element HashAlg and the number of digests; else zeros.
-fn element_numbers(e: ElementAnswer, fields: &mut [u64; 8]) -> u32
+fn element_numbers(e: Option<ElementAt>, fields: &mut [u64; 8]) -> u32
     ensures kind { result ≡ element_kind e }
     ensures fields { fields.new ≡ element_fields e }
 {
-    match e {
-        ElementAnswer::Launch {
-            start,
-            size,
-            control,
+    let Some(e) = e else {
+        *fields = [0; 8];
+        return 0;
+    };
+    match e.body {
+        ElementBody::Launch {
             sinit_min_version,
             reserved,
             hash_alg,
             count,
         } => {
             *fields = [
-                start as u64,
-                size as u64,
+                e.start as u64,
+                e.size as u64,
                 LAUNCH_TYPE as u64,
-                control as u64,
+                e.control as u64,
                 sinit_min_version as u64,
                 reserved as u64,
                 hash_alg as u64,
@@ -139,16 +116,12 @@ fn element_numbers(e: ElementAnswer, fields: &mut [u64; 8]) -> u32
             ];
             1
         }
-        ElementAnswer::Custom {
-            start,
-            size,
-            control,
-        } => {
+        ElementBody::Custom => {
             *fields = [
-                start as u64,
-                size as u64,
+                e.start as u64,
+                e.size as u64,
                 CUSTOM_TYPE as u64,
-                control as u64,
+                e.control as u64,
                 0,
                 0,
                 0,
@@ -156,17 +129,12 @@ fn element_numbers(e: ElementAnswer, fields: &mut [u64; 8]) -> u32
             ];
             2
         }
-        ElementAnswer::Unjudged {
-            start,
-            size,
-            kind,
-            control,
-        } => {
+        ElementBody::Unjudged { kind } => {
             *fields = [
-                start as u64,
-                size as u64,
+                e.start as u64,
+                e.size as u64,
                 kind as u64,
-                control as u64,
+                e.control as u64,
                 0,
                 0,
                 0,
@@ -174,28 +142,18 @@ fn element_numbers(e: ElementAnswer, fields: &mut [u64; 8]) -> u32
             ];
             3
         }
-        ElementAnswer::Stm {
-            start,
-            size,
-            control,
-            hash_alg,
-            count,
-        } => {
+        ElementBody::Stm { hash_alg, count } => {
             *fields = [
-                start as u64,
-                size as u64,
+                e.start as u64,
+                e.size as u64,
                 STM_TYPE as u64,
-                control as u64,
+                e.control as u64,
                 0,
                 0,
                 hash_alg as u64,
                 count as u64,
             ];
             4
-        }
-        ElementAnswer::Refused => {
-            *fields = [0u64; 8];
-            0
         }
     }
 }

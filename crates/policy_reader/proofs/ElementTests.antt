@@ -16,14 +16,14 @@ use Rattle.policy_grammar.specs.Grammar as Grammar
 use Rattle.policy_grammar.specs.Format.{Format, done, ◌>>=◌, number, string, any, any_bytes, inside, times}
 use Rattle.policy_grammar.specs.Parser.{value, after, continue, exactly, read, filling}
 use Rattle.policy_grammar.specs.Layout as Layout
-use Rattle.policy_grammar.proofs.Formats.{read_then}
+use Rattle.policy_grammar.proofs.Formats.{read_then, exactly_value}
 use Rattle.policy_grammar.proofs.Soundness.{filling_value}
 use Rattle.policy_grammar.proofs.Decoding.{body_complete}
 use Rattle.policy_grammar.proofs.Heads.{Upto, upto_start, number_holds, number_wrong, inside_read}
 use Rattle.policy_reader.specs.Inner.{Extent, fault_at, extent_of, further}
 use Rattle.std.specs.Prelude.{Result, Ok, Err}
 use Rattle.field.specs.declared.Fault.{Fault}
-use Rattle.policy_reader.proofs.ReadExtents.{fitting, number_outside, faulty, further_none, last_extent, last_filling}
+use Rattle.policy_reader.proofs.ReadExtents.{size_read, further_size, fitting, number_outside, faulty, further_none, last_extent, last_filling}
 
 -- a count of 16 bits times a digest's length fits
 module _ (g : Result ℕ Fault) (n k : ℕ) (h : value_of g < 256 ^ 2) (e : g ≡ Ok n) (l : k ≤ 64) where
@@ -207,11 +207,23 @@ module _ (s : List ℕ) (f : Result ℕ Fault) (ef : f ≡ field_at s 0 4) where
       b_length : length b ≡ n - 12
       b_length = length-take-le (n - 12) (drop 12 s) (rw length-drop (omega arith))
 
-      pub element_body_lem : (x : Extent) → x ≡ extent_of (filling (Layout.body t) b) → (r : Extent) → r ≡ further 12 x → r ≡ judged
-      element_body_lem x q r h =
-          let o : size_rule (length s - 4) n ≡ true = rw (le-leb 12 n l) (le-leb n (4 + (length s - 4)) (omega arith)) in
-          let u₄ = number_holds Layout.element s 0 4 size_rule _ from_size tt tt size_fits.0 (omega arith) o in
-          let u₈ = number_holds Layout.element s 4 4 any _ u₄ tt tt et (omega arith) refl in
-          let u₁₂ = number_holds Layout.element s 8 4 any (body_of n t) u₈ tt tt refl (omega arith) refl in
-          let to-body = last_extent Layout.element s 12 (inside (n - 12) (Layout.body t)) (element_of n t (number_at s 8 4)) u₁₂ in
-          h ∙ ap (further 12) (q ∙ sym (ap extent_of (inside_read (n - 12) (Layout.body t) (drop 12 s) b_length))) ∙ sym to-body
+      module _ (x : Extent) (q : x ≡ extent_of (filling (Layout.body t) b)) (r : Extent) (h : r ≡ further 12 x) where
+        pub element_body_lem : r ≡ judged
+        element_body_lem =
+            let o : size_rule (length s - 4) n ≡ true = rw (le-leb 12 n l) (le-leb n (4 + (length s - 4)) (omega arith)) in
+            let u₄ = number_holds Layout.element s 0 4 size_rule _ from_size tt tt size_fits.0 (omega arith) o in
+            let u₈ = number_holds Layout.element s 4 4 any _ u₄ tt tt et (omega arith) refl in
+            let u₁₂ = number_holds Layout.element s 8 4 any (body_of n t) u₈ tt tt refl (omega arith) refl in
+            let to-body = last_extent Layout.element s 12 (inside (n - 12) (Layout.body t)) (element_of n t (number_at s 8 4)) u₁₂ in
+            h ∙ ap (further 12) (q ∙ sym (ap extent_of (inside_read (n - 12) (Layout.body t) (drop 12 s) b_length))) ∙ sym to-body
+
+        pub element_faulty : (f : Fault) → r ≡ Err f → Err f ≡ judged
+        element_faulty f e = sym e ∙ element_body_lem
+
+        -- a body that fills its part is as long as that
+        pub element_filled : (z : ℕ) → r ≡ Ok z → Ok n ≡ judged
+        element_filled z e =
+            let (k, ek, i) = further_size 12 x z (sym h ∙ e) in
+            let (v, w) = size_read (filling (Layout.body t) b) k (sym q ∙ ek) in
+            let j = (exactly_value v k (length b) (read (Layout.body t) b) w).1 in
+            ap Ok (omega (arith, b_length)) ∙ sym e ∙ element_body_lem

@@ -12,8 +12,8 @@ use Rattle.policy_grammar.specs.Grammar.{Reading, file_bytes}
 use Rattle.policy_reader.proofs.Places.{accepted_complete}
 use Rattle.decision.specs.Lists.{hash_of, lists_of}
 use Rattle.policy_writer.specs.declared.Cursor.{Cursor}
-use Rattle.policy_writer.specs.declared.Next.{Next}
-use Rattle.policy_writer.specs.declared.Next.TheVariants.{Nothing, At}
+use Rattle.policy_writer.specs.Types.{Next}
+use Rattle.std.specs.Prelude.{Some, None}
 use Rattle.policy_writer.specs.declared.Written.{Written}
 use Rattle.policy_writer.specs.Decode.{described, file}
 use Rattle.policy_writer.specs.Inner.{put, Start, behind, next_of, Put}
@@ -47,10 +47,10 @@ module _ (ns bs fields out : List ℕ) (r : Next) (er : r ≡ next_of file Start
   abbrev Answers : Written → List ℕ → Type 0
   Answers w later = (w ≡ answer_for fields out (described ns bs)) × (later ≡ buffer_for out (described ns bs))
 
-  pub nothing_described : r ≡ Nothing → (w : Written) → w ≡ refused 31 → (later : List ℕ) → later ≡ out → Answers w later
+  pub nothing_described : r ≡ None → (w : Written) → w ≡ refused 31 → (later : List ℕ) → later ≡ out → Answers w later
   nothing_described q w ew later e = let i = found_not file ns bs Start r er q in rw i (ew, e)
 
-  module _ (d : Cursor) (q : r ≡ At d) where
+  module _ (d : Cursor) (q : r ≡ Some d) where
     abbrev reading : (x : Reading) × (described ns bs ≡ some x) × (behind file Start x ≡ d)
     reading = found file ns bs Start r d er q
 

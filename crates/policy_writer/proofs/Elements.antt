@@ -19,8 +19,8 @@ use Rattle.policy_grammar.specs.Parser.{value_of, is_some, filling}
 use Rattle.policy_grammar.specs.Layout as Layout
 use Rattle.policy_grammar.proofs.Decoding.{body_made, element_length}
 use Rattle.policy_writer.specs.declared.Cursor.{Cursor}
-use Rattle.policy_writer.specs.declared.Next.{Next}
-use Rattle.policy_writer.specs.declared.Next.TheVariants.{Nothing, At}
+use Rattle.policy_writer.specs.Types.{Next}
+use Rattle.std.specs.Prelude.{Some, None}
 use Rattle.policy_writer.specs.Decode.{Part, written_type, size_fits, element_with, element_of, front_element, element}
 use Rattle.policy_writer.specs.Inner.{put, element_given, element_text, part_at, next_of, Put}
 use Rattle.policy_writer.proofs.Buffer.{put_two}
@@ -68,11 +68,11 @@ module _ (out : List ℕ) (to type control : ℕ) (b : List ℕ) (a₁ a₂ a₃
 -- THE PART AT THE FRONT
 
 -- where nothing is described, nothing is said of the buffer
-pub nothing_put : (P : Part) (ns bs : List ℕ) (c : Cursor) (out later : List ℕ) → Put P ns bs c out Nothing later
-nothing_put P ns bs c out later = record { put_there = λ d e. (let z : ◌≡◌ {A = ℕ} 0 1 = cc in absurd (omega arith)) }
+pub nothing_put : (P : Part) (ns bs : List ℕ) (c : Cursor) (out later : List ℕ) (r : Next) → r ≡ None → Put P ns bs c out r later
+nothing_put P ns bs c out later r q = record { put_there = λ d e. (let z : ◌≡◌ {A = Next} None (Some d) = sym q ∙ e in cc) }
 
 module _ (ns bs : List ℕ) (c : Cursor) where
-  pub element_short : length ns - c.numbers < 3 → Nothing ≡ next_of element c (part_at element ns bs c)
+  pub element_short : length ns - c.numbers < 3 → None ≡ next_of element c (part_at element ns bs c)
   unfolding front_element
   element_short h = rw (lt-leb 3 (length (drop c.numbers ns)) (rw length-drop h))
 
@@ -94,7 +94,7 @@ module _ (ns bs : List ℕ) (c : Cursor) where
           go true true true none e = refl
           go true true true (some b) e = absurd (true≢false e)
 
-      pub element_not : g ≡ false → Nothing ≡ next_of element c (part_at element ns bs c)
+      pub element_not : g ≡ false → None ≡ next_of element c (part_at element ns bs c)
       element_not q = rw (fields, refused q)
 
       module _ (w : g ≡ true) (b : (i : ℕ) → Fits w8 (get_or bs i 0)) where
@@ -131,7 +131,7 @@ module _ (ns bs : List ℕ) (c : Cursor) where
         pub body_there : n ≤ length bs - c.bodies
         body_there = rw length-drop at given.there
 
-        pub element_next : At (record { numbers = c.numbers + 3; bodies = c.bodies + n; bytes = c.bytes + 12 + n }) ≡ next_of element c (part_at element ns bs c)
+        pub element_next : Some (record { numbers = c.numbers + 3; bodies = c.bodies + n; bytes = c.bytes + 12 + n }) ≡ next_of element c (part_at element ns bs c)
         element_next =
             let e = given in
             let l : length (body_bytes e.value) ≡ n = ap length e.made ∙ body_length in

@@ -12,8 +12,8 @@ use Rattle.field.specs.Number.{bytes}
 use Rattle.field.proofs.Laws.{length_bytes}
 use Rattle.policy_grammar.specs.Grammar.{PolicyList, list_bytes, file_bytes, mark_characters}
 use Rattle.policy_writer.specs.declared.Cursor.{Cursor}
-use Rattle.policy_writer.specs.declared.Next.{Next}
-use Rattle.policy_writer.specs.declared.Next.TheVariants.{Nothing, At}
+use Rattle.policy_writer.specs.Types.{Next}
+use Rattle.std.specs.Prelude.{Some, None}
 use Rattle.policy_writer.specs.Descriptions.{list_numbers, list_bodies}
 use Rattle.policy_writer.specs.Decode.{and_then, times, list, reading_with, whole_reading, described, file}
 use Rattle.policy_writer.specs.Inner.{put, file_head, Start, part_at, next_of, Put}
@@ -38,16 +38,16 @@ module _ (ns bs : List ℕ) where
   abbrev answer : Next
   answer = next_of file Start (part_at file ns bs Start)
 
-  pub no_numbers : length ns < 1 → Nothing ≡ answer
+  pub no_numbers : length ns < 1 → None ≡ answer
   unfolding described
   no_numbers h = rw (lt-leb 1 (length ns) h)
 
   module _ (h : 1 ≤ length ns) (n : ℕ) (en : n ≡ get_or ns 0 0) where
-    pub no_list_lem : n < 1 → Nothing ≡ answer
+    pub no_list_lem : n < 1 → None ≡ answer
     unfolding described
     no_list_lem l = rw (le-leb 1 (length ns) h, ← en, lt-leb 1 n l)
 
-    pub many_lists : 8 < n → Nothing ≡ answer
+    pub many_lists : 8 < n → None ≡ answer
     unfolding described
     many_lists l = rw (le-leb 1 (length ns) h, ← en, lt-leb n 8 l, and-false (leb 1 n))
 
@@ -56,10 +56,10 @@ module _ (ns bs : List ℕ) where
       unfolding described
       lists_are = rw (le-leb 1 (length ns) h, ← en, le-leb 1 n l, le-leb n 8 u)
 
-      pub no_lists : r ≡ Nothing → Nothing ≡ answer
+      pub no_lists : r ≡ None → None ≡ answer
       no_lists q = rw (lists_are, found_not (times n list) ns bs first r er q)
 
-      module _ (d : Cursor) (q : r ≡ At d) where
+      module _ (d : Cursor) (q : r ≡ Some d) where
         -- the lists that were walked
         record Lists : Type 0 where
           pub some_lists : List PolicyList
@@ -82,10 +82,10 @@ module _ (ns bs : List ℕ) where
         whole : part_at file ns bs Start ≡ whole_reading ns bs walked.some_lists
         whole = lists_are ∙ rw walked.are
 
-        pub numbers_left : d.numbers < length ns → Nothing ≡ answer
+        pub numbers_left : d.numbers < length ns → None ≡ answer
         numbers_left z = rw (whole, lt-leb (length ns) (1 + length (flat_map list_numbers walked.some_lists)) (omega (arith, walked.numbers)))
 
-        pub bodies_left : d.bodies < length bs → Nothing ≡ answer
+        pub bodies_left : d.bodies < length bs → None ≡ answer
         bodies_left z =
             rw (whole, lt-leb (length bs) (length (flat_map list_bodies walked.some_lists)) (omega (arith, walked.bodies)), and-false (leb (length ns) (1 + length (flat_map list_numbers walked.some_lists))))
 
@@ -100,7 +100,7 @@ module _ (ns bs : List ℕ) where
               let c : length walked.some_lists ≡ n = row_counted list n (drop 1 ns) bs walked.some_lists walked.are in
               file_bytes_lem walked.some_lists ∙ rw c
 
-          pub file_next : At d ≡ answer
+          pub file_next : Some d ≡ answer
           file_next =
               rw reading_is
               (cursor _ _ _ _ _ _ (omega (arith, walked.numbers)) (omega (arith, walked.bodies))

@@ -13,8 +13,8 @@ use Rattle.field.proofs.Laws.{length_bytes}
 use Rattle.policy_grammar.specs.Grammar.{Element, element_bytes, PolicyList, list_bytes}
 use Rattle.policy_grammar.specs.Layout.{known_version}
 use Rattle.policy_writer.specs.declared.Cursor.{Cursor}
-use Rattle.policy_writer.specs.declared.Next.{Next}
-use Rattle.policy_writer.specs.declared.Next.TheVariants.{Nothing, At}
+use Rattle.policy_writer.specs.Types.{Next}
+use Rattle.std.specs.Prelude.{Some, None}
 use Rattle.policy_writer.specs.Decode.{and_then, times, size_fits, element, list_with, sized_list, front_list, list}
 use Rattle.policy_writer.specs.Inner.{put, list_head, part_at, behind, next_of, up_to, Put}
 use Rattle.policy_writer.proofs.Buffer.{put_before}
@@ -31,7 +31,7 @@ unfolding list_head flat_map
 list_bytes_lem version es = simp (append_assoc, append-nil)
 
 module _ (ns bs : List ℕ) (c : Cursor) where
-  pub list_short : length ns - c.numbers < 2 → Nothing ≡ next_of list c (part_at list ns bs c)
+  pub list_short : length ns - c.numbers < 2 → None ≡ next_of list c (part_at list ns bs c)
   unfolding front_list
   list_short h = rw (lt-leb 2 (length (drop c.numbers ns)) (rw length-drop h))
 
@@ -48,7 +48,7 @@ module _ (ns bs : List ℕ) (c : Cursor) where
     fields =
         rw (le-leb 2 (length (drop c.numbers ns)) (rw length-drop h), get_or-drop c.numbers ns 0 0, get_or-drop c.numbers ns 1 0, add-zero, ← ev, ← en, ← eg, drop-drop 2 c.numbers ns)
 
-    pub list_unknown : g ≡ false → Nothing ≡ next_of list c (part_at list ns bs c)
+    pub list_unknown : g ≡ false → None ≡ next_of list c (part_at list ns bs c)
     list_unknown q = rw (fields, q)
 
     -- behind the elements of a list the list ends
@@ -59,7 +59,7 @@ module _ (ns bs : List ℕ) (c : Cursor) where
     list_ends none = refl
     list_ends (some es) = rw (ends es) (go (size_fits (length (flat_map element_bytes es))))
       where
-        go : (x : Bool) → cond x (At (behind (times n element) start es)) Nothing ≡ next_of list c (cond x (some (list_with v es)) none)
+        go : (x : Bool) → cond x (Some (behind (times n element) start es)) None ≡ next_of list c (cond x (some (list_with v es)) none)
         go false = refl
         go true =
             cursor _ _ _ _ _ _ (omega arith) (omega arith)
@@ -79,21 +79,21 @@ module _ (ns bs : List ℕ) (c : Cursor) where
         pub is : part_at list ns bs c ≡ some (list_with v some_elements)
         pub end : d ≡ behind (times n element) start some_elements
 
-      walked : (d : Cursor) → r ≡ At d → Elements d
+      walked : (d : Cursor) → r ≡ Some d → Elements d
       walked d q = go elements refl (sym er ∙ q)
         where
-          on : (es : List Element) → elements ≡ some es → (x : Bool) → size_fits (length (flat_map element_bytes es)) ≡ x → cond x (At (behind (times n element) start es)) Nothing ≡ At d → Elements d
+          on : (es : List Element) → elements ≡ some es → (x : Bool) → size_fits (length (flat_map element_bytes es)) ≡ x → cond x (Some (behind (times n element) start es)) None ≡ Some d → Elements d
           on es i false e u = let z : ◌≡◌ {A = ℕ} 0 1 = cc in absurd (omega arith)
           on es i true e u = record { some_elements = es; are = i; is = known ∙ rw (i, e); end = cc }
 
-          go : (o : Option (List Element)) → elements ≡ o → up_to start (next_of (times n element) start o) ≡ At d → Elements d
+          go : (o : Option (List Element)) → elements ≡ o → up_to start (next_of (times n element) start o) ≡ Some d → Elements d
           go none i u = let z : ◌≡◌ {A = ℕ} 0 1 = cc in absurd (omega arith)
           go (some es) i u = on es i (size_fits (length (flat_map element_bytes es))) refl (rw (ends es) at u)
 
-      pub list_onward : (d : Cursor) → r ≡ At d → c.bytes + 8 ≤ d.bytes
+      pub list_onward : (d : Cursor) → r ≡ Some d → c.bytes + 8 ≤ d.bytes
       list_onward d q = let e = walked d q in omega (arith, ap (λ (x : Cursor). x.bytes) e.end)
 
-      pub list_put : (d : Cursor) → r ≡ At d → (out mid later : List ℕ) → Put (times n element) ns bs start out r mid
+      pub list_put : (d : Cursor) → r ≡ Some d → (out mid later : List ℕ) → Put (times n element) ns bs start out r mid
           → later ≡ put mid c.bytes (list_head v (d.bytes - (c.bytes + 8))) → (x : Next) → Put list ns bs c out x later
       list_put d q out mid later p e x =
           let s = walked d q in
@@ -109,7 +109,7 @@ module _ (ns bs : List ℕ) (c : Cursor) where
           }
 
 -- a list has 8 bytes and those of its elements, whose size has 32 bits
-pub list_most : (ns bs : List ℕ) (c : Cursor) (r : Next) (d : Cursor) → r ≡ next_of list c (part_at list ns bs c) → r ≡ At d → d.bytes ≤ c.bytes + 4294967303
+pub list_most : (ns bs : List ℕ) (c : Cursor) (r : Next) (d : Cursor) → r ≡ next_of list c (part_at list ns bs c) → r ≡ Some d → d.bytes ≤ c.bytes + 4294967303
 list_most ns bs c r d e q =
     let (l, i, w) = found list ns bs c r d e q in
     let s = list_shape (drop c.numbers ns) (drop c.bodies bs) l i in

@@ -10,8 +10,8 @@ use borrow.Author.Tests.{lt-ltb, le-ltb}
 use Rattle.field.specs.Number.{Bytes}
 use Rattle.field.proofs.Laws.{bytes_drop}
 use Rattle.policy_writer.specs.declared.Cursor.{Cursor}
-use Rattle.policy_writer.specs.declared.Next.{Next}
-use Rattle.policy_writer.specs.declared.Next.TheVariants.{Nothing, At}
+use Rattle.policy_writer.specs.Types.{Next}
+use Rattle.std.specs.Prelude.{Some, None}
 use Rattle.policy_writer.specs.Decode.{Part, row, times}
 use Rattle.policy_writer.specs.Inner.{put, part_at, behind, next_of, up_to, put_of, Put}
 use Rattle.policy_writer.proofs.Buffer.{put_behind}
@@ -27,22 +27,22 @@ Sound P = (ns bs : List ℕ) (a : P.Value) → Bytes bs → P.front ns bs ≡ so
 
 module _ (P : Part) (ns bs : List ℕ) (c : Cursor) where
   -- what goes on found a part
-  pub found : (r : Next) (d : Cursor) → r ≡ next_of P c (part_at P ns bs c) → r ≡ At d → (a : P.Value) × (part_at P ns bs c ≡ some a) × (behind P c a ≡ d)
+  pub found : (r : Next) (d : Cursor) → r ≡ next_of P c (part_at P ns bs c) → r ≡ Some d → (a : P.Value) × (part_at P ns bs c ≡ some a) × (behind P c a ≡ d)
   found r d e q = go (part_at P ns bs c) refl (sym e ∙ q)
     where
-      go : (o : Option P.Value) → part_at P ns bs c ≡ o → next_of P c o ≡ At d → (a : P.Value) × (part_at P ns bs c ≡ some a) × (behind P c a ≡ d)
+      go : (o : Option P.Value) → part_at P ns bs c ≡ o → next_of P c o ≡ Some d → (a : P.Value) × (part_at P ns bs c ≡ some a) × (behind P c a ≡ d)
       go none i h = let z : ◌≡◌ {A = ℕ} 0 1 = cc in absurd (omega arith)
       go (some a) i h = (a, i, cc)
 
-  pub found_not : (r : Next) → r ≡ next_of P c (part_at P ns bs c) → r ≡ Nothing → part_at P ns bs c ≡ none
+  pub found_not : (r : Next) → r ≡ next_of P c (part_at P ns bs c) → r ≡ None → part_at P ns bs c ≡ none
   found_not r e q = go (part_at P ns bs c) (sym e ∙ q)
     where
-      go : (o : Option P.Value) → next_of P c o ≡ Nothing → o ≡ none
+      go : (o : Option P.Value) → next_of P c o ≡ None → o ≡ none
       go none h = refl
       go (some a) h = let z : ◌≡◌ {A = ℕ} 0 1 = cc in absurd (omega arith)
 
 -- the same cursor by its numbers
-pub cursor : (n b z n' b' z' : ℕ) → n ≡ n' → b ≡ b' → z ≡ z' → At (record { numbers = n; bodies = b; bytes = z }) ≡ At (record { numbers = n'; bodies = b'; bytes = z' })
+pub cursor : (n b z n' b' z' : ℕ) → n ≡ n' → b ≡ b' → z ≡ z' → ◌≡◌ {A = Next} (Some (record { numbers = n; bodies = b; bytes = z })) (Some (record { numbers = n'; bodies = b'; bytes = z' }))
 cursor n b z n' b' z' e f g = rw (e, f, g)
 
 module _ (P : Part) (ns bs : List ℕ) (j : ℕ) (c : Cursor) where
@@ -67,17 +67,17 @@ module _ (P : Part) (ns bs : List ℕ) (j : ℕ) (c : Cursor) where
             (omega (arith, length-append (P.bodies a) (flat_map P.bodies l)))
             (omega (arith, length-append (P.bytes a) (flat_map P.bytes l)))
 
-    pub one_put : (out later : List ℕ) (w : Cursor) → later ≡ put out c.bytes (P.bytes a) → next_of (times j P) d (part_at (times j P) ns bs d) ≡ At w
+    pub one_put : (out later : List ℕ) (w : Cursor) → later ≡ put out c.bytes (P.bytes a) → next_of (times j P) d (part_at (times j P) ns bs d) ≡ Some w
         → put_of (times (suc j) P) out c (part_at (times (suc j) P) ns bs c) ≡ put_of (times j P) later d (part_at (times j P) ns bs d)
     unfolding flat_map
     one_put out later w q h = ap (put_of (times (suc j) P) out c) rest ∙ go (part_at (times j P) ns bs d) h
       where
-        go : (o : Option (List P.Value)) → next_of (times j P) d o ≡ At w → put_of (times (suc j) P) out c (map (λ l. a ∷ l) o) ≡ put_of (times j P) later d o
+        go : (o : Option (List P.Value)) → next_of (times j P) d o ≡ Some w → put_of (times (suc j) P) out c (map (λ l. a ∷ l) o) ≡ put_of (times j P) later d o
         go none u = let z : ◌≡◌ {A = ℕ} 0 1 = cc in absurd (omega arith)
         go (some l) u = sym (ap (λ (x : List ℕ). put x d.bytes (flat_map P.bytes l)) q ∙ put_behind out c.bytes (P.bytes a) (flat_map P.bytes l) d.bytes refl)
 
   -- none is found
-  pub none_next : part_at P ns bs c ≡ none → next_of (times (suc j) P) c (part_at (times (suc j) P) ns bs c) ≡ Nothing
+  pub none_next : part_at P ns bs c ≡ none → next_of (times (suc j) P) c (part_at (times (suc j) P) ns bs c) ≡ None
   unfolding row
   none_next e = rw e
 
@@ -90,7 +90,7 @@ pub record Going (P : Part) (ns bs : List ℕ) (start : Cursor) (count : ℕ) (b
   pub onward : start.bytes ≤ c.bytes
   pub same : length out ≡ length before
   pub next : next_of (times (count - k) P) c (part_at (times (count - k) P) ns bs c) ≡ next_of (times count P) start (part_at (times count P) ns bs start)
-  pub put_all : (w : Cursor) → next_of (times count P) start (part_at (times count P) ns bs start) ≡ At w
+  pub put_all : (w : Cursor) → next_of (times count P) start (part_at (times count P) ns bs start) ≡ Some w
       → put_of (times (count - k) P) out c (part_at (times (count - k) P) ns bs c) ≡ put_of (times count P) before start (part_at (times count P) ns bs start)
 
 module _ (P : Part) (ns bs : List ℕ) (start : Cursor) (count : ℕ) (before : List ℕ) where
@@ -104,10 +104,10 @@ module _ (P : Part) (ns bs : List ℕ) (start : Cursor) (count : ℕ) (before : 
       left_is : count - k ≡ suc (count - (k + 1))
       left_is = omega arith
 
-      pub going_stop : r ≡ Nothing → Nothing ≡ next_of (times count P) start (part_at (times count P) ns bs start)
+      pub going_stop : r ≡ None → None ≡ next_of (times count P) start (part_at (times count P) ns bs start)
       going_stop q = sym (none_next P ns bs (count - (k + 1)) c (found_not P ns bs c r e q)) ∙ rw left_is at g.next
 
-      module _ (d : Cursor) (q : r ≡ At d) (later : List ℕ) (p : Put P ns bs c out r later) (l : length later ≡ length out) (sound : Sound P) (b : Bytes bs) where
+      module _ (d : Cursor) (q : r ≡ Some d) (later : List ℕ) (p : Put P ns bs c out r later) (l : length later ≡ length out) (sound : Sound P) (b : Bytes bs) where
         pub going_on : Going P ns bs start count before d (k + 1) later
         going_on =
             let (a, i, w) = found P ns bs c r d e q in
@@ -130,27 +130,27 @@ module _ (P : Part) (ns bs : List ℕ) (start : Cursor) (count : ℕ) (before : 
       none_left : count - k ≡ 0
       none_left = omega arith
 
-      pub going_end : At c ≡ next_of (times count P) start (part_at (times count P) ns bs start)
+      pub going_end : Some c ≡ next_of (times count P) start (part_at (times count P) ns bs start)
       unfolding row flat_map
       going_end = cursor _ _ _ _ _ _ (omega arith) (omega arith) (omega arith) ∙ rw none_left at g.next
 
-      pub going_put : (r : Next) → r ≡ At c → Put (times count P) ns bs start before r out
+      pub going_put : (r : Next) → r ≡ Some c → Put (times count P) ns bs start before r out
       unfolding row flat_map put
       going_put r q = record { put_there = λ d u. rw none_left at (g.put_all c (sym going_end)) }
 
 -- parts of so many bytes at most
 module _ (start : Cursor) (all : Next) where
-  pub limit_stop : Nothing ≡ all → Nothing ≡ up_to start all
+  pub limit_stop : None ≡ all → None ≡ up_to start all
   limit_stop e = rw (← e)
 
-  pub limit_end : (c : Cursor) → At c ≡ all → c.bytes - start.bytes ≤ 0xFFFFFFFF → At c ≡ up_to start all
+  pub limit_end : (c : Cursor) → Some c ≡ all → c.bytes - start.bytes ≤ 0xFFFFFFFF → Some c ≡ up_to start all
   limit_end c e h = rw (← e, lt-ltb (c.bytes - start.bytes) (256 ^ 4) (omega arith))
 
 -- where too many are passed, no more make it less
 pub limit_over : (P : Part) (ns bs : List ℕ) (start : Cursor) (count : ℕ) (before : List ℕ) (c : Cursor) (k : ℕ) (out : List ℕ) → Going P ns bs start count before c k out
-    → 0xFFFFFFFF < c.bytes - start.bytes → Nothing ≡ up_to start (next_of (times count P) start (part_at (times count P) ns bs start))
+    → 0xFFFFFFFF < c.bytes - start.bytes → None ≡ up_to start (next_of (times count P) start (part_at (times count P) ns bs start))
 limit_over P ns bs start count before c k out g h = go (part_at (times (count - k) P) ns bs c) ∙ ap (up_to start) g.next
   where
-    go : (o : Option (List P.Value)) → Nothing ≡ up_to start (next_of (times (count - k) P) c o)
+    go : (o : Option (List P.Value)) → None ≡ up_to start (next_of (times (count - k) P) c o)
     go none = refl
     go (some l) = rw (le-ltb (c.bytes + length (flat_map P.bytes l) - start.bytes) (256 ^ 4) (omega arith))

@@ -7,8 +7,8 @@ use Rattle.policy_grammar.specs.Grammar as Grammar
 use Rattle.policy_grammar.specs.Parser.{value_of, is_some, filling}
 use Rattle.policy_grammar.specs.Layout as Layout
 use Rattle.policy_writer.specs.declared.Cursor.{Cursor}
-use Rattle.policy_writer.specs.declared.Next.{Next}
-use Rattle.policy_writer.specs.declared.Next.TheVariants.{Nothing, At}
+use Rattle.policy_writer.specs.Types.{Next}
+use Rattle.std.specs.Prelude.{Some, None}
 use Rattle.policy_writer.specs.Decode.{Part, written_type, size_fits, element_with, list_of, reading_of}
 
 -- bytes that are put into a buffer from an offset on; those past its end are not put
@@ -55,13 +55,13 @@ behind P c a =
     }
 
 abbrev pub next_of : (P : Part) → Cursor → Option P.Value → Next
-next_of P c none = Nothing
-next_of P c (some a) = At (behind P c a)
+next_of P c none = None
+next_of P c (some a) = Some (behind P c a)
 
 -- a part of at most so many bytes
 abbrev pub up_to : Cursor → Next → Next
-up_to c Nothing = Nothing
-up_to c (At d) = cond (size_fits (d.bytes - c.bytes)) (At d) Nothing
+up_to c None = None
+up_to c (Some d) = cond (size_fits (d.bytes - c.bytes)) (Some d) None
 
 -- the bytes of a part from where the walk stands on
 abbrev pub put_of : (P : Part) → List ℕ → Cursor → Option P.Value → List ℕ
@@ -70,7 +70,7 @@ put_of P out c (some a) = put out c.bytes (P.bytes a)
 
 -- what was put where the walk went on
 pub record Put (P : Part) (ns bs : List ℕ) (c : Cursor) (out : List ℕ) (r : Next) (later : List ℕ) : Type 0 where
-  pub put_there : (d : Cursor) → r ≡ At d → later ≡ put_of P out c (part_at P ns bs c)
+  pub put_there : (d : Cursor) → r ≡ Some d → later ≡ put_of P out c (part_at P ns bs c)
 
 -- the walk stands within the description, and not too far on in the file
 pub record Within (ns bs : List ℕ) (most : ℕ) (c : Cursor) : Type 0 where

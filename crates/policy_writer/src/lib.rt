@@ -33,13 +33,6 @@ pub(crate) struct Cursor {
     pub(crate) bytes: usize,
 }
 
-// Where a walk goes on behind a part, or that nothing is described.
-#[derive(Clone, Copy)]
-pub(crate) enum Next {
-    Nothing,
-    At(Cursor),
-}
-
 fn refused(number: u32) -> Written
     ensures { result ≡ spec.refused number }
 {
@@ -61,7 +54,7 @@ fn policy_record(fields: [u8; 38], hash: [u8; 32]) -> [u8; 70]
 }
 
 // Where a walk through the whole description ends. It has an empty part of the buffer, so that nothing is written before the size of the file is known.
-fn described_end(numbers: &[u32], bodies: &[u8], out: &mut [u8]) -> Next
+fn described_end(numbers: &[u32], bodies: &[u8], out: &mut [u8]) -> Option<Cursor>
     ensures next { result ≡ next_of file Start (described numbers.now bodies.now) }
     ensures kept { out.new ≡ out.old }
 {
@@ -86,8 +79,8 @@ pub fn write(numbers: &[u32], bodies: &[u8], fields: [u8; 38], out: &mut [u8]) -
     ensures buffer { out.new ≡ buffer_for out.old (described numbers.now bodies.now) }
 {
     let end = match described_end(numbers, bodies, out) {
-        Next::At(c) => c,
-        Next::Nothing => return refused(31),
+        Some(c) => c,
+        None => return refused(31),
     };
     let size = end.bytes;
     if LARGEST_FILE < size {

@@ -4,8 +4,8 @@ ghost use Rattle.policy_writer.specs.Decode.{written_type, times};
 ghost use Rattle.policy_writer.specs.Decode as Decode;
 ghost use Rattle.policy_writer.specs.Inner.{put, element_given, element_text, list_head, file_head, next_of, part_at, up_to, Put, Within, Start};
 
+use crate::Cursor;
 use crate::puts::{put_bytes, put_number};
-use crate::{Cursor, Next};
 use policy_answers::{CUSTOM_TYPE, LAUNCH_TYPE};
 use policy_reader::{FIRST_LIST, LIST_COUNT, MARK, MOST_LISTS, UNSIGNED, ZEROS};
 
@@ -22,11 +22,7 @@ fn wide(x: u32) -> usize
 fn written_type(kind: usize) -> bool
     ensures { result ≡ written_type kind }
 {
-    if kind == LAUNCH_TYPE {
-        true
-    } else {
-        kind == CUSTOM_TYPE
-    }
+    matches!(kind, LAUNCH_TYPE | CUSTOM_TYPE)
 }
 
 // Whether an element of a type is written with a body of so many bytes, which stands from `from` on.
@@ -59,7 +55,7 @@ fn put_element(out: &mut [u8], to: usize, kind: usize, control: usize, body: &[u
 }
 
 // An element.
-fn element(numbers: &[u32], bodies: &[u8], out: &mut [u8], c: Cursor) -> Next
+fn element(numbers: &[u32], bodies: &[u8], out: &mut [u8], c: Cursor) -> Option<Cursor>
     requires { Within numbers.now bodies.now (2 ^ 40) c }
     ensures next { result ≡ next_of Decode.element c (part_at Decode.element numbers.now bodies.now c) }
     ensures put { Put Decode.element numbers.now bodies.now c out.old result out.new }
@@ -68,17 +64,17 @@ fn element(numbers: &[u32], bodies: &[u8], out: &mut [u8], c: Cursor) -> Next
     let from = c.bodies;
     let to = c.bytes;
     if numbers.len() - at < 3 {
-        return Next::Nothing;
+        return None;
     }
     let kind = wide(numbers[at]);
     let control = wide(numbers[at + 1]);
     let length = wide(numbers[at + 2]);
     if !element_given(kind, length, bodies, from) {
-        return Next::Nothing;
+        return None;
     }
     let end = from + length;
     put_element(out, to, kind, control, &bodies[from..end]);
-    Next::At(Cursor {
+    Some(Cursor {
         numbers: at + 3,
         bodies: end,
         bytes: to + 12 + length,
@@ -86,26 +82,27 @@ fn element(numbers: &[u32], bodies: &[u8], out: &mut [u8], c: Cursor) -> Next
 }
 
 // So many elements, of at most LARGEST_SIZE bytes.
-fn elements(numbers: &[u32], bodies: &[u8], out: &mut [u8], start: Cursor, count: usize) -> Next
+fn elements(
+    numbers: &[u32],
+    bodies: &[u8],
+    out: &mut [u8],
+    start: Cursor,
+    count: usize,
+) -> Option<Cursor>
     requires { Within numbers.now bodies.now (2 ^ 39) start }
     ensures next { result ≡ up_to start (next_of (times count Decode.element) start (part_at (times count Decode.element) numbers.now bodies.now start)) }
     ensures put { Put (times count Decode.element) numbers.now bodies.now start out.old result out.new }
 {
     let first = start.bytes;
     let mut c = start;
-    let mut k: usize = 0;
-    while k < count {
-        let next = match element(numbers, bodies, out, c) {
-            Next::At(d) => d,
-            Next::Nothing => return Next::Nothing,
-        };
+    for _ in 0..count {
+        let next = element(numbers, bodies, out, c)?;
         if LARGEST_SIZE < next.bytes - first {
-            return Next::Nothing;
+            return None;
         }
         c = next;
-        k += 1;
     }
-    Next::At(c)
+    Some(c)
 }
 
 // The bytes of a list before its elements, which have so many bytes.
@@ -119,7 +116,7 @@ fn put_list_head(out: &mut [u8], to: usize, version: usize, size: usize)
 }
 
 // A list. The size of its elements, which stands before them, is known behind them.
-fn list(numbers: &[u32], bodies: &[u8], out: &mut [u8], c: Cursor) -> Next
+fn list(numbers: &[u32], bodies: &[u8], out: &mut [u8], c: Cursor) -> Option<Cursor>
     requires { Within numbers.now bodies.now (2 ^ 38) c }
     ensures next { result ≡ next_of Decode.list c (part_at Decode.list numbers.now bodies.now c) }
     ensures put { Put Decode.list numbers.now bodies.now c out.old result out.new }
@@ -127,12 +124,12 @@ fn list(numbers: &[u32], bodies: &[u8], out: &mut [u8], c: Cursor) -> Next
     let at = c.numbers;
     let to = c.bytes;
     if numbers.len() - at < 2 {
-        return Next::Nothing;
+        return None;
     }
     let version = wide(numbers[at]);
     let count = wide(numbers[at + 1]);
     if !policy_reader::known_version(version) {
-        return Next::Nothing;
+        return None;
     }
     let first = to + 8;
     let start = Cursor {
@@ -140,31 +137,28 @@ fn list(numbers: &[u32], bodies: &[u8], out: &mut [u8], c: Cursor) -> Next
         bodies: c.bodies,
         bytes: first,
     };
-    let next = match elements(numbers, bodies, out, start, count) {
-        Next::At(d) => d,
-        Next::Nothing => return Next::Nothing,
-    };
+    let next = elements(numbers, bodies, out, start, count)?;
     put_list_head(out, to, version, next.bytes - first);
-    Next::At(next)
+    Some(next)
 }
 
 // So many lists.
-fn lists(numbers: &[u32], bodies: &[u8], out: &mut [u8], start: Cursor, count: usize) -> Next
+fn lists(
+    numbers: &[u32],
+    bodies: &[u8],
+    out: &mut [u8],
+    start: Cursor,
+    count: usize,
+) -> Option<Cursor>
     requires { Within numbers.now bodies.now 36 start × (count < 9) }
     ensures next { result ≡ next_of (times count Decode.list) start (part_at (times count Decode.list) numbers.now bodies.now start) }
     ensures put { Put (times count Decode.list) numbers.now bodies.now start out.old result out.new }
 {
     let mut c = start;
-    let mut k: usize = 0;
-    while k < count {
-        let next = match list(numbers, bodies, out, c) {
-            Next::At(d) => d,
-            Next::Nothing => return Next::Nothing,
-        };
-        c = next;
-        k += 1;
+    for _ in 0..count {
+        c = list(numbers, bodies, out, c)?;
     }
-    Next::At(c)
+    Some(c)
 }
 
 // The bytes of a file before its lists.
@@ -177,19 +171,19 @@ fn put_file_head(out: &mut [u8], count: usize)
 }
 
 // A file, from the first number and the first body on.
-pub(crate) fn file(numbers: &[u32], bodies: &[u8], out: &mut [u8]) -> Next
+pub(crate) fn file(numbers: &[u32], bodies: &[u8], out: &mut [u8]) -> Option<Cursor>
     ensures next { result ≡ next_of Decode.file Start (part_at Decode.file numbers.now bodies.now Start) }
     ensures put { Put Decode.file numbers.now bodies.now Start out.old result out.new }
 {
     if numbers.len() < 1 {
-        return Next::Nothing;
+        return None;
     }
     let count = wide(numbers[0]);
     if count < 1 {
-        return Next::Nothing;
+        return None;
     }
     if MOST_LISTS < count {
-        return Next::Nothing;
+        return None;
     }
     put_file_head(out, count);
     let start = Cursor {
@@ -197,15 +191,12 @@ pub(crate) fn file(numbers: &[u32], bodies: &[u8], out: &mut [u8]) -> Next
         bodies: 0,
         bytes: FIRST_LIST,
     };
-    let next = match lists(numbers, bodies, out, start, count) {
-        Next::At(d) => d,
-        Next::Nothing => return Next::Nothing,
-    };
+    let next = lists(numbers, bodies, out, start, count)?;
     if next.numbers < numbers.len() {
-        return Next::Nothing;
+        return None;
     }
     if next.bodies < bodies.len() {
-        return Next::Nothing;
+        return None;
     }
-    Next::At(next)
+    Some(next)
 }

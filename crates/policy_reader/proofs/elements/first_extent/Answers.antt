@@ -1,5 +1,5 @@
 -- `first_extent` meets its contract: one law for each answer.
-use Rattle.policy_reader.proofs.ElementTests.{element_outside, element_small, element_long, element_body_lem}
+use Rattle.policy_reader.proofs.ElementTests.{element_outside, element_small, element_long, element_faulty, element_filled}
 use Rattle.policy_reader.proofs.ReadExtents.{handed_on, part_fits}
 use borrow.Author.Rules.{rules}
 use Rattle.policy_reader.proofs.elements.first_extent.Goals as goal
@@ -16,5 +16,8 @@ returns-then-t-size c = search (rules, c.in_ok-size.was, element_long)
 pub further-requires : goal.further-requires
 further-requires c = search (rules, part_fits)
 
+pub returns-in_err-further : goal.returns-in_err-further
+returns-in_err-further c = handed_on c.from_residual-in_err-further.ensures.1 (search (rules, c.in_ok-size.was, c.in_err-further.was, element_faulty))
+
 pub returns : goal.returns
-returns c = search (rules, c.in_ok-size.was, element_body_lem)
+returns c = search (rules, c.in_ok-size.was, c.in_ok-further.was, element_filled)

@@ -1,4 +1,5 @@
 -- `element` meets its contract: one law for each answer.
+use mathlib.Core.Path.{refl}
 use Rattle.policy_writer.proofs.Buffer.{put_same}
 use Rattle.policy_writer.proofs.Elements.{nothing_put, element_short, element_not, body_there, element_next, element_written}
 use native.Mathlib.Omega.{arith}
@@ -6,12 +7,12 @@ use borrow.Author.Rules.{rules}
 use Rattle.policy_writer.proofs.parts.element.Goals as goal
 
 pub returns-then-numbers-at-lt3 : goal.returns-then-numbers-at-lt3
-returns-then-numbers-at-lt3 c = record { next = search (rules, element_short); put = nothing_put _ _ _ _ _ _ }
+returns-then-numbers-at-lt3 c = record { next = search (rules, element_short); put = nothing_put _ _ _ _ _ _ _ refl }
 
 pub returns-then-not-element_given : goal.returns-then-not-element_given
 returns-then-not-element_given c =
     let a = c.args in
-    record { next = element_not a.numbers.now a.bodies.now a.c c.if-numbers-at-lt3.false _ _ _ c.wide-kind.ensures.0 c.wide-control.ensures.0 c.wide-length.ensures.0 _ c.element_given.ensures c.if-not-element_given.true; put = nothing_put _ _ _ _ _ _ }
+    record { next = element_not a.numbers.now a.bodies.now a.c c.if-numbers-at-lt3.false _ _ _ c.wide-kind.ensures.0 c.wide-control.ensures.0 c.wide-length.ensures.0 _ c.element_given.ensures c.if-not-element_given.true; put = nothing_put _ _ _ _ _ _ _ refl }
 
 pub slice_bounds-put_element-end : goal.slice_bounds-put_element-end
 slice_bounds-put_element-end c =

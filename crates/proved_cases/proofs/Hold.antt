@@ -7,7 +7,7 @@ use lib.Dec.{lit<, lit≤, eqb}
 use Rattle.field.specs.Number.{bytes, number}
 use Rattle.field.specs.Field.{field_at, value_of, same, marked_at}
 use Rattle.range.specs.Range.{inside_of, clear_of, ends_by}
-use Rattle.heap.specs.Heap.{bios_data_size, os_mle_data_size, os_sinit_data_size, parts_fit, os_sinit_part, fields_of, version_known, size_fits, ends_within, low_placed, high_placed, pmrs_placed, number_of, heap_of}
+use Rattle.heap.specs.Heap.{bios_data_size, os_mle_data_size, os_sinit_data_size, parts_fit, os_sinit_part, fields_of, version_known, size_fits, ends_within, low_placed, high_placed, pmrs_placed, heap_of}
 use Rattle.sinit.specs.Module.{E, row_of}
 use Rattle.rules.specs.Rules.{all, answer_for}
 use Rattle.sinit.specs.Rules.{some_below, inside, place, header, gdt, entry, selector, table, list, revision_matches, match, listed, supported, module_of}
@@ -35,7 +35,7 @@ tested [] e = tt
 tested (c ∷ cs) e = let p = (and-eq-true_iff _ _).0 e in (eqb-true _ _ p.0, tested cs p.1)
 
 table_holds : AllCases cases
-unfolding test flat_map bytes number field_at value_of ends_by bios_data_size os_mle_data_size os_sinit_data_size parts_fit os_sinit_part fields_of version_known size_fits ends_within low_placed high_placed pmrs_placed number_of answer_for heap_of same marked_at inside_of E row_of all some_below inside place header gdt entry selector table list revision_matches match listed supported module_of present_of address_of reserved_clear allowed protected holding clear_of found_from follows rules_from digest_length mark_characters F.◌>>=◌ F.number F.string F.rest F.inside F.times F.many P.after P.continue P.exactly P.read L.digests L.launch L.other L.body L.element L.signed L.signing L.list L.file L.whole D.reading D.accepted
+unfolding test flat_map bytes number field_at value_of ends_by bios_data_size os_mle_data_size os_sinit_data_size parts_fit os_sinit_part fields_of version_known size_fits ends_within low_placed high_placed pmrs_placed answer_for heap_of same marked_at inside_of E row_of all some_below inside place header gdt entry selector table list revision_matches match listed supported module_of present_of address_of reserved_clear allowed protected holding clear_of found_from follows rules_from digest_length mark_characters F.◌>>=◌ F.number F.string F.rest F.inside F.times F.many P.after P.continue P.exactly P.read L.digests L.launch L.other L.body L.element L.signed L.signing L.list L.file L.whole D.reading D.accepted
 table_holds =
     tested cases
     (rw (

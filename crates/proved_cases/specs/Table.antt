@@ -1,7 +1,8 @@
 -- The cases marked P of "Both sides of a line", each with its number there, the number that the specification answers and the number expected.
 -- Beside each refusal stands the case on the other side, so that each answer is another where its limit is.
 use Rattle.std.specs.Prelude.{ℕ, ◌-◌, ◌+◌, ◌^◌, ◌≡◌, false, List, [], ◌∷◌, ◌++◌, take}
-use Rattle.heap.specs.Heap.{number_of, heap_of}
+use Rattle.rules.specs.Refusal.{number_of}
+use Rattle.heap.specs.Heap.{heap_of}
 use Rattle.sinit.specs.Rules as sinit
 use Rattle.pages.specs.Rules as pages
 use Rattle.policy_grammar.specs.Parser.{value_of}
@@ -54,7 +55,7 @@ with_low_pmr size = heap_bytes 8 8 (os_sinit_data 108 (2 ^ 32 - 2 ^ 21) size end
 -- the answer for a module with a GDT limit and the selector 8, on a platform that all other rules permit
 abbrev pub module_number : ℕ → ℕ
 module_number limit =
-    sinit.number_of (sinit.module_of (module_with limit) 0x7F000000 0x8000 (record { vendor = 0x8086; device = 0xB001; revision = 5 }) 7)
+    number_of (sinit.module_of (module_with limit) 0x7F000000 0x8000 (record { vendor = 0x8086; device = 0xB001; revision = 5 }) 7)
 
 -- the number for a policy file of so many lists
 abbrev pub file_number : ℕ → ℕ
@@ -62,7 +63,7 @@ file_number count = policy.number_of (file_answer (file_with count))
 
 -- the answer for the walk of a window whose page table has these entries
 unfoldable pub walk_number : List ℕ → ℕ
-walk_number entries = pages.number_of (pages.walk_of (window_with entries) memory window_base)
+walk_number entries = number_of (pages.walk_of (window_with entries) memory window_base)
 
 abbrev pub cases : List Case
 cases =

@@ -3,7 +3,10 @@ use mathlib.Core.Path.{◌≡◌, ap, ◌∙◌}
 use mathlib.Core.List.{List, [], ◌∷◌}
 use Prim.Native.Nat.{ℕ}
 use Rattle.answer.specs.declared.Answer.{Answer}
+use Rattle.std.specs.Prelude.{Result}
+use Rattle.rules.specs.Refusal.{number_of}
 use Rattle.policy_writer.specs.declared.Written.{Written}
+use Rattle.policy_writer.specs.Answers.{length_of, record_of}
 use Rattle.bleiwurzel.specs.Scalars.{counts_of, Given}
 
 pub as_given : (r due : Answer) (pages places : List ℕ) {number : ℕ} {counts place digest : List ℕ} → r ≡ due → pages ≡ places
@@ -18,6 +21,6 @@ as_given r due pages places e f n c p d =
     }
 
 -- the same of what was written
-pub as_written : (r due : Written) (file later : List ℕ) → r ≡ due → later ≡ file
-    → (r.number ≡ due.number) × ((later ≡ file) × ((r.length ∷ [] ≡ due.length ∷ []) × (r.«record» ≡ due.«record»)))
-as_written r due file later e f = (ap (λ w. w.number) e, (f, (ap (λ w. w.length ∷ []) e, ap (λ w. w.«record») e)))
+pub as_written : {r due : Result Written ℕ} {file later : List ℕ} → r ≡ due → later ≡ file
+    → (number_of r ≡ number_of due) × ((later ≡ file) × ((length_of r ∷ [] ≡ length_of due ∷ []) × (record_of r ≡ record_of due)))
+as_written e f = (ap number_of e, (f, (ap (λ w. length_of w ∷ []) e, ap record_of e)))

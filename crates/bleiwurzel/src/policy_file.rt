@@ -6,7 +6,9 @@ ghost use Rattle.policy_answers.specs.Answers.{file_answer, list_answer, element
 ghost use Rattle.policy_answers.specs.Seen.{number_of, count_of, place_of};
 ghost use Rattle.bleiwurzel.specs.Policy.{list_kind, list_fields, element_kind, element_fields, ListNumbersAt, ElementNumbersAt};
 
-use policy_answers::{CUSTOM_TYPE, ElementAt, ElementBody, FileFault, LAUNCH_TYPE, ListAt, STM_TYPE};
+use policy_answers::{
+    CUSTOM_TYPE, ElementAt, ElementBody, FileFault, LAUNCH_TYPE, ListAt, STM_TYPE,
+};
 
 // The number of a string: 0, 26 or 27. `lists` gets the number of its lists, 0 where it is refused, and `place` on 27 the offset of the first field at
 // fault, else 0.

@@ -13,11 +13,14 @@ use Rattle.policy_reader.proofs.Places.{accepted_complete}
 use Rattle.decision.specs.Lists.{hash_of, lists_of}
 use Rattle.policy_writer.specs.declared.Cursor.{Cursor}
 use Rattle.policy_writer.specs.Types.{Next}
-use Rattle.std.specs.Prelude.{Some, None}
+use Rattle.std.specs.Prelude.{Some, None, Result, Ok, Err}
+use Rattle.rules.specs.declared.refusal.Refusal.{Refusal}
+use Rattle.rules.specs.declared.refusal.Refusal.TheVariants as refusals
+use Rattle.rules.specs.Refusal.{numbered}
 use Rattle.policy_writer.specs.declared.Written.{Written}
 use Rattle.policy_writer.specs.Decode.{described, file}
 use Rattle.policy_writer.specs.Inner.{put, Start, behind, next_of, Put}
-use Rattle.policy_writer.specs.Answers.{refused, answer_for, buffer_for}
+use Rattle.policy_writer.specs.Answers.{answer_for, buffer_for}
 use Rattle.policy_writer.specs.Writing.{Words}
 use Rattle.policy_writer.proofs.Buffer.{put_behind, put_front}
 use Rattle.policy_writer.proofs.Rows.{found, found_not}
@@ -44,11 +47,11 @@ record_made zeros fields hash a b lz lf lh ea eb =
 -- THE ANSWERS
 
 module _ (ns bs fields out : List ℕ) (r : Next) (er : r ≡ next_of file Start (described ns bs)) where
-  abbrev Answers : Written → List ℕ → Type 0
-  Answers w later = (w ≡ answer_for fields out (described ns bs)) × (later ≡ buffer_for out (described ns bs))
+  abbrev Answers : Result Written Refusal → List ℕ → Type 0
+  Answers w later = (numbered w ≡ answer_for fields out (described ns bs)) × (later ≡ buffer_for out (described ns bs))
 
-  pub nothing_described : r ≡ None → (w : Written) → w ≡ refused 31 → (later : List ℕ) → later ≡ out → Answers w later
-  nothing_described q w ew later e = let i = found_not file ns bs Start r er q in rw i (ew, e)
+  pub nothing_described : r ≡ None → (later : List ℕ) → later ≡ out → Answers (Err refusals.PolicyDescription) later
+  nothing_described q later e = let i = found_not file ns bs Start r er q in rw i (refl, e)
 
   module _ (d : Cursor) (q : r ≡ Some d) where
     abbrev reading : (x : Reading) × (described ns bs ≡ some x) × (behind file Start x ≡ d)
@@ -57,16 +60,16 @@ module _ (ns bs fields out : List ℕ) (r : Next) (er : r ≡ next_of file Start
     size_is : length (file_bytes reading.0) ≡ d.bytes
     size_is = let (x, i, e) = reading in omega (arith, ap (λ (y : Cursor). y.bytes) e)
 
-    pub too_long : 65536 < d.bytes → (w : Written) → w ≡ refused 32 → (later : List ℕ) → later ≡ out → Answers w later
-    too_long h w ew later e =
+    pub too_long : 65536 < d.bytes → (later : List ℕ) → later ≡ out → Answers (Err refusals.PolicySize) later
+    too_long h later e =
         let i = reading.1 in
-        rw (i, lt-leb (length (file_bytes reading.0)) 65536 (omega (arith, size_is))) (ew, e)
+        rw (i, lt-leb (length (file_bytes reading.0)) 65536 (omega (arith, size_is))) (refl, e)
 
     module _ (l : d.bytes ≤ 65536) where
-      pub no_room : length out < d.bytes → (w : Written) → w ≡ refused 33 → (later : List ℕ) → later ≡ out → Answers w later
-      no_room h w ew later e =
+      pub no_room : length out < d.bytes → (later : List ℕ) → later ≡ out → Answers (Err refusals.PolicyRoom) later
+      no_room h later e =
           let i = reading.1 in
-          rw (i, le-leb (length (file_bytes reading.0)) 65536 (omega (arith, size_is)), lt-leb (length (file_bytes reading.0)) (length out) (omega (arith, size_is))) (ew, e)
+          rw (i, le-leb (length (file_bytes reading.0)) 65536 (omega (arith, size_is)), lt-leb (length (file_bytes reading.0)) (length out) (omega (arith, size_is))) (refl, e)
 
       module _ (room : d.bytes ≤ length out) (w : Words ns) (b : Bytes bs) where
         abbrev bytes : List ℕ
@@ -87,7 +90,7 @@ module _ (ns bs fields out : List ℕ) (r : Next) (er : r ≡ next_of file Start
           file_there = omega (arith, size_is, ap length written_is, length-append bytes (drop (length bytes) out))
 
           pub all_written : (hash rec : List ℕ) → hash ≡ hash_of (lists_of (take d.bytes later)) → rec ≡ fields ++ hash
-              → Answers (record { number = 0; length = d.bytes; «record» = rec }) later
+              → Answers (Ok (record { length = d.bytes; «record» = rec })) later
           all_written hash rec eh e =
               let i = reading.1 in
               let front : take d.bytes later ≡ bytes = ap (take d.bytes) written_is ∙ take_at bytes (drop (length bytes) out) d.bytes size_is in

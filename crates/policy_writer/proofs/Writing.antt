@@ -22,7 +22,8 @@ use Rattle.decision.specs.Lists.{of_grammar, measure, hash_of, hash_matches}
 use Rattle.decision.specs.Answers.{file_fault_of}
 use Rattle.policy_writer.specs.Descriptions.{numbers_of, bodies_of, Describe}
 use Rattle.policy_writer.specs.Decode.{described}
-use Rattle.policy_writer.specs.Answers.{refused, written, not_too_long, has_room, answer_for, buffer_for}
+use Rattle.rules.specs.Refusal.{number_of}
+use Rattle.policy_writer.specs.Answers.{record_of, refused, written, not_too_long, has_room, answer_for, buffer_for}
 use Rattle.policy_writer.specs.Writing.{answer, file_in, ReadBack, ReadsBack, WritesBack, HashHolds}
 use Rattle.policy_writer.proofs.Described.{described_exactly, describe_decoded}
 use Rattle.policy_writer.proofs.Lent.{file_words, file_bytes_lem}
@@ -42,15 +43,15 @@ module _ (fields buffer : List ℕ) where
       let y : has_room buffer r ≡ true = le-leb (length (file_bytes r)) (length buffer) h in
       record { most = m; answered = rw (x, y); stands = rw (x, y) }
 
-  zero_succeeds : (r : Reading) → (answer_for fields buffer (some r)).number ≡ 0 → Success r
+  zero_succeeds : (r : Reading) → number_of (answer_for fields buffer (some r)) ≡ 0 → Success r
   zero_succeeds r e = go (not_too_long r) (has_room buffer r) refl refl e
     where
-      go : (x y : Bool) → not_too_long r ≡ x → has_room buffer r ≡ y → (cond x (cond y (written fields r) (refused 33)) (refused 32)).number ≡ 0 → Success r
+      go : (x y : Bool) → not_too_long r ≡ x → has_room buffer r ≡ y → number_of (cond x (cond y (written fields r) (refused 33)) (refused 32)) ≡ 0 → Success r
       go false y i j h = absurd (omega arith)
       go true false i j h = absurd (omega arith)
       go true true i j h = succeeds r (leb-true (length (file_bytes r)) largest_file i) (leb-true (length (file_bytes r)) (length buffer) j)
 
-  zero_some : (o : Option Reading) → (answer_for fields buffer o).number ≡ 0 → (r : Reading) × (o ≡ some r)
+  zero_some : (o : Option Reading) → number_of (answer_for fields buffer o) ≡ 0 → (r : Reading) × (o ≡ some r)
   zero_some none e = absurd (omega arith)
   zero_some (some r) e = (r, refl)
 
@@ -110,5 +111,5 @@ hash_holds ns bs fields buffer w b l e =
     let r : Reading = back.reading in
     let i : described ns bs ≡ some r = describe_decoded ns bs r back.describes in
     let s = zero_succeeds fields buffer r (rw i at e) in
-    let h : policy_hash (answer ns bs fields buffer).«record» ≡ hash_of r.lists = rw (i, s.answered) (hash_stands fields (hash_of r.lists) l (length_hash_of r.lists)) in
-    no_fault (file_in ns bs fields buffer) (answer ns bs fields buffer).«record» r back.read h
+    let h : policy_hash (record_of (answer ns bs fields buffer)) ≡ hash_of r.lists = rw (i, s.answered) (hash_stands fields (hash_of r.lists) l (length_hash_of r.lists)) in
+    no_fault (file_in ns bs fields buffer) (record_of (answer ns bs fields buffer)) r back.read h

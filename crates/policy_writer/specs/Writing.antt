@@ -1,15 +1,16 @@
 -- What the writer promises of every description, buffer and record: `DescribedExactly`, `ReadsBack`, `WritesBack` and `HashHolds`. Each is proved under the
 -- same name in small letters: proofs/Described.antt and Writing.antt. The sentences in quotes are those of request (vii).
-use Rattle.std.specs.Prelude.{ℕ, ◌≤◌, ◌<◌, ◌^◌, ◌≡◌, ◌↔◌, List, ◌++◌, length, take, drop, get_or}
+use Rattle.std.specs.Prelude.{ℕ, ◌≤◌, ◌<◌, ◌^◌, ◌≡◌, ◌↔◌, List, ◌++◌, length, take, drop, get_or, Result}
 use Rattle.std.proofs.Math.Option.{some}
 use Rattle.field.specs.Number.{Bytes}
 use Rattle.policy_grammar.specs.Grammar.{All, Reading}
 use Rattle.policy_grammar.specs.Decode.{accepted}
 use Rattle.decision.specs.Answers.{file_fault_of}
+use Rattle.rules.specs.Refusal.{number_of}
 use Rattle.policy_writer.specs.declared.Written.{Written}
 use Rattle.policy_writer.specs.Descriptions.{numbers_of, bodies_of, Describable, Describe}
 use Rattle.policy_writer.specs.Decode.{described}
-use Rattle.policy_writer.specs.Answers.{answer_for, buffer_for}
+use Rattle.policy_writer.specs.Answers.{length_of, record_of, answer_for, buffer_for}
 
 -- every number is one of 32 bits
 abbrev pub Words : List ℕ → Type 0
@@ -20,11 +21,11 @@ abbrev pub DescribedExactly : Type 0
 DescribedExactly = (ns bs : List ℕ) (r : Reading) → Words ns → Bytes bs → (described ns bs ≡ some r) ↔ Describe ns bs r
 
 -- what `write` answers, and the file that it wrote: so many bytes at the front of the buffer
-abbrev pub answer : List ℕ → List ℕ → List ℕ → List ℕ → Written
+abbrev pub answer : List ℕ → List ℕ → List ℕ → List ℕ → Result Written ℕ
 answer ns bs fields buffer = answer_for fields buffer (described ns bs)
 
 abbrev pub file_in : List ℕ → List ℕ → List ℕ → List ℕ → List ℕ
-file_in ns bs fields buffer = take (answer ns bs fields buffer).length (buffer_for buffer (described ns bs))
+file_in ns bs fields buffer = take (length_of (answer ns bs fields buffer)) (buffer_for buffer (described ns bs))
 
 -- "Reading what was written gives the descriptions back": the reader accepts the file, and the numbers and the bodies describe its reading
 pub record ReadBack (ns bs file : List ℕ) : Type 0 where
@@ -35,15 +36,15 @@ pub record ReadBack (ns bs file : List ℕ) : Type 0 where
 abbrev pub ReadsBack : Type 0
 ReadsBack =
     (ns bs fields buffer : List ℕ) → Words ns → Bytes bs
-    → (answer ns bs fields buffer).number ≡ 0 → ReadBack ns bs (file_in ns bs fields buffer)
+    → number_of (answer ns bs fields buffer) ≡ 0 → ReadBack ns bs (file_in ns bs fields buffer)
 
 -- "writing the reading of any unsigned file of those two types gives its bytes again where the buffer has room": its numbers and bodies can be lent, and
 -- with them the file is written again
 pub record WrittenBack (file : List ℕ) (r : Reading) (fields buffer : List ℕ) : Type 0 where
   pub words : Words (numbers_of r)
   pub bytes : Bytes (bodies_of r)
-  pub number : (answer (numbers_of r) (bodies_of r) fields buffer).number ≡ 0
-  pub size : (answer (numbers_of r) (bodies_of r) fields buffer).length ≡ length file
+  pub number : number_of (answer (numbers_of r) (bodies_of r) fields buffer) ≡ 0
+  pub size : length_of (answer (numbers_of r) (bodies_of r) fields buffer) ≡ length file
   pub stands : buffer_for buffer (described (numbers_of r) (bodies_of r)) ≡ file ++ drop (length file) buffer
 
 abbrev pub WritesBack : Type 0
@@ -55,5 +56,5 @@ WritesBack =
 abbrev pub HashHolds : Type 0
 HashHolds =
     (ns bs fields buffer : List ℕ) → Words ns → Bytes bs → length fields ≡ 38
-    → (answer ns bs fields buffer).number ≡ 0
-    → file_fault_of (file_in ns bs fields buffer) (answer ns bs fields buffer).«record» ≡ record { number = 0; place = 0 }
+    → number_of (answer ns bs fields buffer) ≡ 0
+    → file_fault_of (file_in ns bs fields buffer) (record_of (answer ns bs fields buffer)) ≡ record { number = 0; place = 0 }

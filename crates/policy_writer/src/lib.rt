@@ -6,21 +6,21 @@
 
 use decision::POLICY_HASH;
 use policy_reader::LARGEST_FILE;
+use rules::Refusal;
 
 mod parts;
 mod puts;
 
 ghost use Rattle.std.specs.Prelude.{◌≡◌, ◌++◌, ◌≤◌, length, take};
+ghost use Rattle.rules.specs.Refusal.{numbered};
 ghost use Rattle.decision.specs.Lists.{hash_of, lists_of};
 ghost use Rattle.policy_writer.specs.Decode.{described, file};
 ghost use Rattle.policy_writer.specs.Inner.{next_of, Start};
-ghost use Rattle.policy_writer.specs.Answers as spec;
 ghost use Rattle.policy_writer.specs.Answers.{answer_for, buffer_for};
 
-// What was written: 0, the length of the file and the policy record; or a refusal, with no length and a record of zeros.
+// What was written: the length of the file and the policy record.
 #[derive(Clone, Copy)]
 pub struct Written {
-    pub number: u32,
     pub length: usize,
     pub record: [u8; 70],
 }
@@ -31,16 +31,6 @@ pub(crate) struct Cursor {
     pub(crate) numbers: usize,
     pub(crate) bodies: usize,
     pub(crate) bytes: usize,
-}
-
-fn refused(number: u32) -> Written
-    ensures { result ≡ spec.refused number }
-{
-    Written {
-        number,
-        length: 0,
-        record: [0u8; 70],
-    }
 }
 
 // The policy record: its fields as they are asked for, and PolicyHash.
@@ -74,26 +64,29 @@ fn hash_of(out: &[u8], size: usize) -> [u8; 32]
 // Writes the file that numbers and bodies describe to the front of `out`, whose other bytes stay, and gives its length and the policy record: `fields` and
 // then the file's PolicyHash. 31 where they describe no file of unsigned lists with elements of types 0x10 and 3, 32 where it has over 65,536 bytes, 33
 // where `out` has too little room; then `out` stays as it is.
-pub fn write(numbers: &[u32], bodies: &[u8], fields: [u8; 38], out: &mut [u8]) -> Written
-    ensures answer { result ≡ answer_for fields out.old (described numbers.now bodies.now) }
+pub fn write(
+    numbers: &[u32],
+    bodies: &[u8],
+    fields: [u8; 38],
+    out: &mut [u8],
+) -> Result<Written, Refusal>
+    ensures answer { numbered result ≡ answer_for fields out.old (described numbers.now bodies.now) }
     ensures buffer { out.new ≡ buffer_for out.old (described numbers.now bodies.now) }
 {
-    let end = match described_end(numbers, bodies, out) {
-        Some(c) => c,
-        None => return refused(31),
+    let Some(end) = described_end(numbers, bodies, out) else {
+        return Err(Refusal::PolicyDescription);
     };
     let size = end.bytes;
     if LARGEST_FILE < size {
-        return refused(32);
+        return Err(Refusal::PolicySize);
     }
     if out.len() < size {
-        return refused(33);
+        return Err(Refusal::PolicyRoom);
     }
     parts::file(numbers, bodies, out);
     let hash = hash_of(out, size);
-    Written {
-        number: 0,
+    Ok(Written {
         length: size,
         record: policy_record(fields, hash),
-    }
+    })
 }

@@ -23,10 +23,8 @@ pub(crate) fn put_bytes(out: &mut [u8], at: usize, s: &[u8])
     ensures { out.new ≡ put out.old at s.now }
 {
     let n = placed(out.len(), at, s.len());
-    let mut k: usize = 0;
-    while k < n {
+    for k in 0..n {
         out[at + k] = s[k];
-        k += 1;
     }
 }
 
@@ -37,10 +35,8 @@ pub(crate) fn put_number(out: &mut [u8], at: usize, width: usize, x: usize)
 {
     let last = placed(out.len(), at, width);
     let mut left = x;
-    let mut k: usize = 0;
-    while k < last {
+    for k in 0..last {
         out[at + k] = (left % 256) as u8;
         left = left / 256;
-        k += 1;
     }
 }

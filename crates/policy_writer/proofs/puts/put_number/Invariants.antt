@@ -5,6 +5,3 @@ use Rattle.policy_writer.proofs.puts.put_number.Given as goal
 
 abbrev pub invariant-loop-k : goal.invariant-loop-k
 invariant-loop-k l = (l.k ≤ l.last) × Left l.initial.out l.out l.at l.k (bytes (l.width - l.k) l.left) (bytes l.width l.x)
-
-abbrev pub decreases-loop-k : goal.decreases-loop-k
-decreases-loop-k l = l.last - l.k

@@ -24,7 +24,8 @@ fn give(a: Answer, counts: &mut [u32; 2], place: &mut [u32; 1], digest: &mut [u8
 {
     *counts = [a.pages, a.list];
     *place = [a.place];
-    *digest = a.digest;
+    let sum = a.digest;
+    *digest = sum;
     a.number
 }
 
@@ -116,6 +117,7 @@ pub extern "C" fn bleiwurzel_check_measured(
         (length pages.old))
         pages.old result pages.new counts.new place.new digest.new measurement.new }
 {
+    let numbers = *reserved;
     let platform = Platform {
         window_base: window_base,
         heap_base: heap_base,
@@ -128,7 +130,7 @@ pub extern "C" fn bleiwurzel_check_measured(
         revision: revision,
         reserved: ReservedRanges {
             count: reserved_count,
-            numbers: *reserved,
+            numbers,
         },
     };
     let a = launch::check_measured(

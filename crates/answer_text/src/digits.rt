@@ -18,7 +18,7 @@ fn digit(d: u32) -> u8
     b'0' + d as u8
 }
 
-// The digits are found from the last to the first.
+// The digits are found from the last to the first, until the number is used up: how many there are is known then.
 pub(crate) fn decimal(n: u32) -> Digits
     ensures { (result.start < 10) × (length result.bytes ≡ 10) × (drop result.start result.bytes ≡ Text·decimal n) }
 {

@@ -12,7 +12,7 @@ ghost use Rattle.answer_text.specs.Text.{hex_digit as Text·hex_digit};
 use crate::line::{FIRST_LINE, Line};
 use answer::Answer;
 
-// The number that is shown with its place: the policy file is not of the grammar.
+// The number that is shown with its place: the policy file is not of the grammar. An answer has its number as C has it, so it is compared as one.
 const NOT_OF_GRAMMAR: u32 = 27;
 
 const ADDRESS_DIGITS: usize = 16;
@@ -25,6 +25,7 @@ pub const PLACES: usize = 4096;
 
 pub const OUTPUT: usize = FIRST_LINE + PAGE_LINE * PLACES;
 
+// A digit as its byte. What `{:x}` writes is said by no contract, and `output` promises each byte.
 fn hex_digit(d: u64) -> u8
     requires { d < 16 }
     ensures { result ≡ Text·hex_digit d }

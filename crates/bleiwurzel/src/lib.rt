@@ -15,7 +15,7 @@ ghost use Rattle.bleiwurzel.specs.Scalars.{platform_of, counts_of, Given, GivenF
 use answer::Answer;
 use launch::{Platform, RESERVED_NUMBERS, ReservedRanges};
 
-// An answer to C: the number as the result, the rest in arrays.
+// An answer to C: the number as the result, the rest in the arrays that the header declares one by one.
 fn give(a: Answer, counts: &mut [u32; 2], place: &mut [u32; 1], digest: &mut [u8; 32]) -> u32
     ensures number { result ≡ a.number }
     ensures counts { counts.new ≡ counts_of a }

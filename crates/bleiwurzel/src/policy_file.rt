@@ -1,5 +1,5 @@
 // The reader of policy files: the number of a string, and any list or element of it, by number or at an offset. A part is its offset and its length
-// in the file.
+// in the file. C has no `Option` and no `Result`, so numbers, kinds and arrays of fields stand for them here.
 ghost use Rattle.std.specs.Prelude.{◌≡◌, [], ◌∷◌};
 ghost use Rattle.policy_grammar.specs.Decode.{accepted};
 ghost use Rattle.policy_answers.specs.Answers.{file_answer, list_answer, element_answer};

@@ -14,7 +14,8 @@ use field::number_or_zero;
 use launch::{MOST_RESERVED, Platform, RESERVED_NUMBERS, ReservedRanges};
 use rules::Refusal;
 
-// The versions: the second has the reserved ranges.
+// The versions: the second has the reserved ranges. A version is a number of the file that is only compared, so an enum would stand between two
+// comparisons.
 const FIRST: u64 = 1;
 
 const SECOND: u64 = 2;

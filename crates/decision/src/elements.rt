@@ -99,6 +99,10 @@ fn judgement(named: bool, holds_stm: bool) -> Judgement
     Judgement::Yes
 }
 
+// Elements are walked by `while`, since each step is the element's own size, and an iterator of elements would hide from the loop's invariant where
+// the next one stands. That elements stand from `start` on is asked of each of the three functions that walk or pass them on: it names a reading of the
+// grammar, which no value of the code holds.
+//
 // What the elements of t from `start` on say: all are of types that are judged, one of them names the digest of the pages, and whether one is an STM
 // element.
 pub(crate) fn elements_judged(t: &[u8], start: usize, k: &LaunchCriteria) -> Judgement

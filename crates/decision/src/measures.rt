@@ -25,7 +25,7 @@ fn measured(file: &[u8], l: Option<ListAt>) -> &[u8]
     }
 }
 
-// The digest of the measures joined.
+// The digest of the measures joined. The walk goes on by each list's own size.
 fn hash(file: &[u8]) -> [u8; 32]
     requires { of_grammar file.now ≡ true }
     ensures { result ≡ hash_of (lists_of file.now) }

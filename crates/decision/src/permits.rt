@@ -77,7 +77,7 @@ impl<'a> FileLists<'a> {
     }
 }
 
-// The number of the lowest list of a file of the grammar that permits, none where none does.
+// The number of the lowest list of a file of the grammar that permits, none where none does. The walk goes on by each list's own size.
 fn lowest_in(file: &[u8], k: &LaunchCriteria) -> Option<u32>
     requires { of_grammar file.now ≡ true }
     ensures { result ≡ number_if (lowest_permitting file.now (criteria_of k.now)) }

@@ -8,7 +8,7 @@ ghost use Rattle.fips_vectors.specs.Line.{line_of};
 
 use std::io;
 
-// The hexadecimal digit of the low half of a byte.
+// The hexadecimal digit of the low half of a byte. `{:x}` would do, but no contract says what it writes, and `line` promises each byte.
 #[tactic(auto, using(std::proofs::lemmas::Bool::Decides::nat_tests))]
 fn digit(b: u8) -> u8
     ensures { result ≡ hex_digit_ascii (b % 16) }
@@ -82,7 +82,8 @@ fn print_lengths(rt: &impl Print, m: &[u8]) -> io::Result<()>
     Ok(())
 }
 
-// The digest of m, absorbed in parts of first, first + more, first + 2 * more, .. bytes, of which the last may be shorter.
+// The digest of m, absorbed in parts of first, first + more, first + 2 * more, .. bytes, of which the last may be shorter. The parts grow, so that
+// `chunks` does not cut them.
 fn in_parts(m: &[u8], first: usize, more: usize) -> [u8; 32]
     requires more_nonzero { 0 < first + more }
     requires more_bound { more ≤ 1 }

@@ -26,7 +26,8 @@ pub const MOST_RESERVED: u32 = 16;
 // How many numbers hold them: a base and a size each.
 pub const RESERVED_NUMBERS: usize = 32;
 
-// The ranges that the platform reserves, the base and the size of each in turn. Those past the count are ignored.
+// The ranges that the platform reserves, the base and the size of each in turn. Those past the count are ignored. C hands them over in this form, and
+// `PastCountIgnored` of specs/Ignored.antt speaks of the numbers past the count.
 #[derive(Clone, Copy)]
 pub struct ReservedRanges {
     pub count: u32,

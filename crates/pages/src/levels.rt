@@ -21,6 +21,8 @@ const MOST_TABLES: u64 = 40;
 
 const DIRECTORIES: u64 = POINTERS * ENTRIES;
 
+// That a page or a table lies above what was found (`Above`) is asked where it is needed: it ties an address to the progress, and is no value's own.
+//
 // What the walk is given: the tables in the window, the ranges of memory that the rules name, and the reserved ranges as numbers.
 #[derive(Clone, Copy)]
 pub struct Walker<'a> {

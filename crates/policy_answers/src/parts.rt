@@ -15,7 +15,7 @@ pub fn elements_of(l: Option<ListAt>) -> Option<Part>
     })
 }
 
-// The key of a list, where it is signed.
+// The key of a list, where it is signed. Key and signature differ in a field alone; a function over the field would be longer than both.
 pub fn key_of(l: Option<ListAt>) -> Option<Part>
     ensures { result ≡ key_of l }
 {

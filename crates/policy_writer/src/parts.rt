@@ -12,6 +12,7 @@ use policy_reader::{FIRST_LIST, LIST_COUNT, MARK, MOST_LISTS, UNSIGNED, ZEROS};
 // The largest number of 32 bits: that of an element's size, and of the size of a list's elements.
 const LARGEST_SIZE: usize = 0xFFFF_FFFF;
 
+// A number of the description. The contract hands on that it has 32 bits, on which the sums below rest.
 fn wide(x: u32) -> usize
     ensures { (result ≡ x) × (result < 2 ^ 32) }
 {
@@ -54,7 +55,8 @@ fn put_element(out: &mut [u8], to: usize, kind: usize, control: usize, body: &[u
     put_bytes(out, to + 12, body);
 }
 
-// An element.
+// An element. Numbers, bodies and buffer are handed on one by one: of a slice in a struct the check does not say that its bytes are below 256, which
+// the laws of the grammar need, so that with a struct of the first two these functions had no proof.
 fn element(numbers: &[u32], bodies: &[u8], out: &mut [u8], c: Cursor) -> Option<Cursor>
     requires { Within numbers.now bodies.now (2 ^ 40) c }
     ensures next { result ≡ next_of Decode.element c (part_at Decode.element numbers.now bodies.now c) }

@@ -4,7 +4,8 @@ ghost use Rattle.std.specs.Prelude.{◌≡◌, ◌+◌, ◌≤◌, ◌<◌, ◌^
 ghost use Rattle.field.specs.Number.{bytes};
 ghost use Rattle.policy_writer.specs.Inner.{put, Placed};
 
-// How many of n bytes from `at` on lie within a buffer of so many bytes.
+// How many of n bytes from `at` on lie within a buffer of so many bytes. The loops below go so far; a copy of slices would ask for a test of the empty
+// case and a cut on both sides, and is no plainer.
 fn placed(room: usize, at: usize, n: usize) -> usize
     ensures { Placed room at n result }
 {

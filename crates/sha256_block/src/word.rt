@@ -18,7 +18,8 @@ pub(crate) fn maj(x: u32, y: u32, z: u32) -> u32
     y ^ ((x ^ y) & (y ^ z))
 }
 
-// The functions that FIPS 180-4 writes with a capital sigma, and with a small one.
+// The functions that FIPS 180-4 writes with a capital sigma, and with a small one. Each has the name and the three numbers that section 4.1.2 gives it;
+// one function over the numbers would say at each call which numbers, and no longer which function.
 pub(crate) fn big_sigma0(x: u32) -> u32
     ensures { result ≡ Σ₀ x }
 {

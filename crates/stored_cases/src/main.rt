@@ -10,7 +10,8 @@ const MOST: usize = 1000;
 // The most bytes of an argument that is tried: as many as a path has.
 const NAME: usize = 4096;
 
-// The output for the capture of a name.
+// The output for the capture of a name. launch_check has the same few lines for standard input; a function for both would need a crate above `capture`
+// and `answer_text` for two programs. Input and output have fixed buffers, as the library asks for them.
 fn stored<R: Files + Print + AllocGlobal>(
     rt: &R,
     errors: &impl Print,

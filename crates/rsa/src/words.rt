@@ -3,11 +3,10 @@ ghost use Rattle.std.specs.Prelude.{◌≡◌, ◌+◌, ◌*◌, ◌/◌, ◌%�
 ghost use Rattle.rsa.specs.Words.{value, power};
 ghost use Rattle.rsa.specs.Inner.{little_endian, Callable, Carried};
 
-// The first number that a word does not hold, and the greatest that it does.
+// The first number that a word does not hold.
 const RADIX: u64 = 4294967296;
 
-const MOST: u32 = 4294967295;
-
+// The two words of a number, by `as`, which is proved to lose nothing here: `try_from` answers a Result, whose error would have to be handled.
 pub(crate) fn low(x: u64) -> u32
     ensures { result ≡ x % 2 ^ 32 }
 {
@@ -28,7 +27,8 @@ pub(crate) fn accumulated(x: u32, y: u32, t: u32, c: u32) -> u64
 }
 
 // The sum at each place, from the lowest up: of the place, the word there and the carry of the place below. The low word is put there, and
-// the high one carried. The answer is the last carry.
+// the high one carried. The answer is the last carry. This loop and that of `load` count, since an invariant over `iter_mut().zip(..)` has no
+// name for the words that are written.
 fn carried<F: Fn(usize, u32, u32) -> u64>(t: &mut [u32], first: u32, sum: F) -> u32
     requires { Callable (F.pre sum) (length t.old) }
     ensures { Carried (F.post sum) t.old first t.new result }
@@ -62,7 +62,7 @@ pub(crate) fn subtract(t: &mut [u32], n: &[u32]) -> u32
     requires { length n.now ≡ length t.old }
     ensures { value t.new + power (length t.old) * result + value n.now ≡ value t.old + power (length t.old) }
 {
-    carried(t, 1, |j, w, c| accumulated(1, w, MOST - n[j], c))
+    carried(t, 1, |j, w, c| accumulated(1, w, u32::MAX - n[j], c))
 }
 
 // The number 2^(32 * l - 16), l the length in words.

@@ -4,7 +4,8 @@ ghost use Rattle.answer_text.specs.Text.{digit as Text·digit, decimal as Text·
 
 const MOST_DIGITS: usize = 10;
 
-// The digits of a number: the bytes of the array from `start` on. What is before them is free.
+// The digits of a number: the bytes of the array from `start` on. What is before them is free. An array and a place, and no String: a line is
+// written without memory from the system.
 #[derive(Clone, Copy)]
 pub(crate) struct Digits {
     pub(crate) bytes: [u8; 10],

@@ -51,7 +51,7 @@ reduce_none n t top z h =
 
 -- A STEP OF THE PRODUCT
 
-module _ (n t₀ t₁ t₂ t₃ b : List ℕ) (top x r c m d : ℕ) (ops : Operands t₀ b n r) (below : extended n t₀ top < 2 * value n)
+module _ (n t₀ t₁ t₂ t₃ b : List ℕ) (top x r c m d : ℕ) (ops : Operands t₀ b n) (some : 0 < length n) (negative : (get_or n 0 0 * r + 1) % 2 ^ 32 ≡ 0) (below : extended n t₀ top < 2 * value n)
     (kept₁ : length t₁ ≡ length t₀) (kept₂ : length t₂ ≡ length t₁) (e₁ : value t₁ + power (length t₀) * c ≡ value t₀ + x * value b)
     (em : m ≡ (get_or t₁ 0 0 * r + 0 + 0) % 2 ^ 32) (e₂ : value t₂ + power (length t₁) * d ≡ value t₁ + m * value n) where
   sizes : (power (length t₀) ≡ radix n) × (power (length t₁) ≡ radix n) × (power (length t₂) ≡ radix n)
@@ -63,10 +63,10 @@ module _ (n t₀ t₁ t₂ t₃ b : List ℕ) (top x r c m d : ℕ) (ops : Opera
   lowest_zero : get_or t₂ 0 0 < 2 ^ 32 → get_or t₂ 0 0 ≡ 0
   lowest_zero h =
       let p : ℕ = power (length n - 1) in
-      let k : length n - 1 + 1 ≡ length n = omega (arith, ops.some) in
+      let k : length n - 1 + 1 ≡ length n = omega (arith, some) in
       let e : radix n ≡ 2 ^ 32 * p = ap power (sym k) ∙ power_more (length n - 1) in
       let q : value t₂ + 2 ^ 32 * p * d ≡ value t₁ + m * value n = rw (sizes.1, e) at e₂ in
-      lowest (get_or t₁ 0 0) (get_or n 0 0) r m (get_or t₂ 0 0) h em ops.negative (value (drop 1 t₂) + p * d) (value (drop 1 t₁) + m * value (drop 1 n))
+      lowest (get_or t₁ 0 0) (get_or n 0 0) r m (get_or t₂ 0 0) h em negative (value (drop 1 t₂) + p * d) (value (drop 1 t₁) + m * value (drop 1 n))
       (apart p (value t₁) (value t₂) (value n) (get_or t₁ 0 0) (get_or t₂ 0 0) (get_or n 0 0) (value (drop 1 t₁)) (value (drop 1 t₂)) (value (drop 1 n)) m d q (value_low t₁) (value_low t₂) (value_low n))
     where
       apart : (p v₁ v₂ n a₁ a₂ a l₁ l₂ l m d : ℕ) → v₂ + 2 ^ 32 * p * d ≡ v₁ + m * n → v₁ ≡ a₁ + 2 ^ 32 * l₁ → v₂ ≡ a₂ + 2 ^ 32 * l₂ → n ≡ a + 2 ^ 32 * l
@@ -223,8 +223,3 @@ odd_words (x ∷ n) e = omega arith
 
 pub odd_low : (n : List ℕ) → value n % 2 ≡ 1 → get_or n 0 0 % 2 ≡ 1
 odd_low n e = omega (arith, value_low n)
-
-pub operands : (n t b : List ℕ) (r : ℕ) → length t ≡ length n → length b ≡ length n → value n % 2 ≡ 1 → value b < value n
-    → (get_or n 0 0 * r + 1) % 2 ^ 32 ≡ 0 → Operands t b n r
-operands n t b r room factor odd below negative =
-    record { room = room; factor = factor; some = odd_words n odd; below = below; negative = negative }

@@ -34,7 +34,7 @@ value_below [] w = lit< tt
 value_below (x ∷ l) w = rw (power_suc (length l)) (omega (arith, value_below l (λ i. w (suc i)), w 0))
 
 -- one word more
-prefix_suc : (l : List ℕ) (j : ℕ) → j < length l → value (take (suc j) l) ≡ value (take j l) + power j * get_or l j 0
+pub prefix_suc : (l : List ℕ) (j : ℕ) → j < length l → value (take (suc j) l) ≡ value (take j l) + power j * get_or l j 0
 unfolding value
 prefix_suc [] j h = absurd (omega arith)
 prefix_suc (x ∷ l) zero h = omega arith

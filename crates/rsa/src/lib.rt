@@ -36,7 +36,7 @@ fn matching(n: &[u32], s: &[u32], m: &[u32], x: &mut [u32], y: &mut [u32]) -> bo
     if !words::less(m, n) {
         return false;
     }
-    montgomery::raise(y, x, s, n);
+    montgomery::Modulus::new(n).raise(y, x, s);
     words::same(y, m)
 }
 

@@ -1,13 +1,12 @@
 // Numbers as words of 32 bits, the lowest word first.
 ghost use Rattle.std.specs.Prelude.{◌≡◌, ◌+◌, ◌*◌, ◌/◌, ◌%◌, ◌^◌, ◌<◌, ltb, eqb, length, get_or};
 ghost use Rattle.rsa.specs.Words.{value, power};
-ghost use Rattle.rsa.specs.Inner.{little_endian};
+ghost use Rattle.rsa.specs.Inner.{little_endian, Callable, Carried};
 
-// The first number that a word does not hold, and the greatest that it does.
+// The first number that a word does not hold.
 const RADIX: u64 = 4294967296;
 
-const MOST: u32 = 4294967295;
-
+// The two words of a number, by `as`, which is proved to lose nothing here: `try_from` answers a Result, whose error would have to be handled.
 pub(crate) fn low(x: u64) -> u32
     ensures { result ≡ x % 2 ^ 32 }
 {
@@ -27,31 +26,35 @@ pub(crate) fn accumulated(x: u32, y: u32, t: u32, c: u32) -> u64
     u64::from(x) * u64::from(y) + u64::from(t) + u64::from(c)
 }
 
+// The sum at each place, from the lowest up: of the place, the word there and the carry of the place below. The low word is put there, and
+// the high one carried. The answer is the last carry. This loop and that of `load` count, since an invariant over `iter_mut().zip(..)` has no
+// name for the words that are written.
+fn carried<F: Fn(usize, u32, u32) -> u64>(t: &mut [u32], first: u32, sum: F) -> u32
+    requires { Callable (F.pre sum) (length t.old) }
+    ensures { Carried (F.post sum) t.old first t.new result }
+{
+    let mut c = first;
+    for j in 0..t.len() {
+        let s = sum(j, t[j], c);
+        t[j] = low(s);
+        c = high(s);
+    }
+    c
+}
+
 // t + x * b in place, and the word that is carried out.
 pub(crate) fn row(t: &mut [u32], x: u32, b: &[u32]) -> u32
     requires { length b.now ≡ length t.old }
     ensures { value t.new + power (length t.old) * result ≡ value t.old + x * value b.now }
 {
-    let mut c: u32 = 0;
-    for j in 0..t.len() {
-        let sum = accumulated(x, b[j], t[j], c);
-        t[j] = low(sum);
-        c = high(sum);
-    }
-    c
+    carried(t, 0, |j, w, c| accumulated(x, b[j], w, c))
 }
 
 // 2 * t in place, and the bit that is carried out.
 pub(crate) fn double(t: &mut [u32]) -> u32
     ensures { value t.new + power (length t.old) * result ≡ 2 * value t.old }
 {
-    let mut c: u32 = 0;
-    for j in 0..t.len() {
-        let sum = accumulated(2, t[j], 0, c);
-        t[j] = low(sum);
-        c = high(sum);
-    }
-    c
+    carried(t, 0, |_j, w, c| accumulated(2, w, 0, c))
 }
 
 // t - n in place: the complement of n is added, and 1. The bit that is carried out is 0 where n is more than t.
@@ -59,13 +62,7 @@ pub(crate) fn subtract(t: &mut [u32], n: &[u32]) -> u32
     requires { length n.now ≡ length t.old }
     ensures { value t.new + power (length t.old) * result + value n.now ≡ value t.old + power (length t.old) }
 {
-    let mut c: u32 = 1;
-    for j in 0..t.len() {
-        let sum = accumulated(1, t[j], MOST - n[j], c);
-        t[j] = low(sum);
-        c = high(sum);
-    }
-    c
+    carried(t, 1, |j, w, c| accumulated(1, w, u32::MAX - n[j], c))
 }
 
 // The number 2^(32 * l - 16), l the length in words.

@@ -1,20 +1,18 @@
--- `row` meets its contract: in each turn the sum of the words passed, with the carry, is that of T + x * B up to the place.
-use native.Mathlib.Omega.{arith}
-use Rattle.rsa.proofs.Loops.{starts, goes, row_start, row_next, row_end}
+-- `row` meets its contract.
+use Prim.Native.Nat.{ℕ, ◌+◌, ◌*◌}
+use Rattle.std.proofs.Common.{arith}
+use lib.ListN.{length, get_or}
+use Rattle.rsa.proofs.Loops.{row_joined}
+use Rattle.rsa.proofs.Values.{whole}
 use Rattle.rsa.proofs.words.row.Goals as goal
-
-pub loop-j-init : goal.loop-j-init
-loop-j-init c = (starts _, row_start c.args.x)
-
-pub loop-j-preserved : goal.loop-j-preserved
-loop-j-preserved c =
-    let a = c.args in (
-      goes _ _ _ _ c.loop-j.invariant.0 (omega arith),
-      row_next a.t.now a.b.now c.loop-j.t a.x c.loop-j.c c.loop-j.j c.loop-j.invariant.0 c.requires c.loop-j.invariant.1
-          c.accumulated-sum.result _ _ (omega arith) c.accumulated-sum.ensures c.low.ensures c.high-c.ensures,
-    )
 
 pub returns : goal.returns
 returns c =
     let a = c.args in
-    row_end a.t.now a.b.now c.loop-j.t a.x c.loop-j.c c.loop-j.j c.loop-j.invariant.0 c.requires c.loop-j.invariant.1 (omega arith)
+    let l : ℕ = length a.t.now in
+    rw (← whole a.t.now l (omega arith), ← whole a.b.now l (omega arith))
+    (omega (
+      arith,
+      c.carried.ensures (λ j w. a.x * get_or a.b.now j 0 + w) (λ j w k s hj hw e. omega (arith, e)),
+      row_joined a.t.now a.x a.b.now c.requires l (omega arith),
+    ))

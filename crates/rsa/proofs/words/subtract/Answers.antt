@@ -1,20 +1,19 @@
--- `subtract` meets its contract: in each turn the number of the words passed, with the carry and the words of N, is that of T and 2^(32 * j).
-use native.Mathlib.Omega.{arith}
-use Rattle.rsa.proofs.Loops.{starts, goes, subtract_start, subtract_next, subtract_end}
+-- `subtract` meets its contract.
+use Prim.Native.Nat.{ℕ, ◌+◌, ◌-◌}
+use Rattle.std.proofs.Common.{arith}
+use lib.ListN.{length, get_or}
+use Rattle.rsa.proofs.Loops.{subtract_joined}
+use Rattle.rsa.proofs.Values.{whole}
 use Rattle.rsa.proofs.words.subtract.Goals as goal
-
-pub loop-j-init : goal.loop-j-init
-loop-j-init c = (starts _, subtract_start)
-
-pub loop-j-preserved : goal.loop-j-preserved
-loop-j-preserved c =
-    let a = c.args in (
-      goes _ _ _ _ c.loop-j.invariant.0 (omega arith),
-      subtract_next a.t.now a.n.now c.loop-j.t c.loop-j.c c.loop-j.j c.loop-j.invariant.0 c.requires c.loop-j.invariant.1
-          c.accumulated-sum.result _ _ (omega arith) (c.type_inv.n c.loop-j.j).fits
-          c.accumulated-sum.ensures c.low.ensures c.high-c.ensures,
-    )
 
 pub returns : goal.returns
 returns c =
-    subtract_end c.args.t.now c.args.n.now c.loop-j.t c.loop-j.c c.loop-j.j c.loop-j.invariant.0 c.requires c.loop-j.invariant.1 (omega arith)
+    let a = c.args in
+    let l : ℕ = length a.t.now in
+    omega (
+      arith,
+      c.carried.ensures (λ j w. w + (4294967295 - get_or a.n.now j 0)) (λ j w k s hj hw e. omega (arith, e)),
+      subtract_joined a.t.now a.n.now c.requires (λ i. (c.type_inv.n i).fits) l (omega arith),
+      whole a.t.now l (omega arith),
+      whole a.n.now l (omega arith),
+    )

@@ -4,11 +4,11 @@ use mathlib.Core.Path.{◌≡◌, ◌∙◌}
 use native.Mathlib.Omega.{arith}
 use Rattle.rsa.specs.Words.{value}
 use Rattle.rsa.proofs.Products.{remainder_below, times_start, times_next}
-use Rattle.rsa.proofs.montgomery.double_times.Goals as goal
+use Rattle.rsa.proofs.montgomery.Modulus.double_times.Goals as goal
 
 pub loop-k-init : goal.loop-k-init
 loop-k-init c =
-    (omega arith, (c.requires.0, times_start (value c.args.t.now) (value c.args.n.now) c.requires.1))
+    (omega arith, (c.requires.0, times_start (value c.args.t.now) (value c.args.self.now.words.now) c.requires.1))
 
 pub double-requires : goal.double-requires
 double-requires c =
@@ -19,7 +19,7 @@ loop-k-preserved c = (
   omega arith,
   (
     c.double.auto.t ∙ c.loop-k.invariant.1.0,
-    times_next c.loop-k._k (value c.args.t.now) (value c.args.n.now) c.loop-k.invariant.1.1 c.double.ensures,
+    times_next c.loop-k._k (value c.args.t.now) (value c.args.self.now.words.now) c.loop-k.invariant.1.1 c.double.ensures,
   ),
 )
 

@@ -5,37 +5,33 @@ use native.Mathlib.Omega.{arith}
 use lib.ListN.{length}
 use Rattle.rsa.specs.Words.{value, power}
 use Rattle.rsa.specs.Montgomery.{radix}
-use Rattle.rsa.proofs.Products.{remainder_below, radix_start, radix_squares, operands}
-use Rattle.rsa.proofs.montgomery.square_radix.Goals as goal
+use Rattle.rsa.proofs.Products.{remainder_below, radix_start, radix_squares}
+use Rattle.rsa.proofs.montgomery.Modulus.square_radix.Goals as goal
 
 pub double_times-requires : goal.double_times-requires
 double_times-requires c =
-    let e : power (length c.args.x.now) ≡ radix c.args.n.now = ap power c.requires.result in
+    let e : power (length c.args.x.now) ≡ radix c.args.self.now.words.now = ap power c.requires.result in
     (c.high_bit.auto.t ∙ c.requires.result, omega (arith, c.high_bit.ensures, e, c.requires.large))
 
 pub square_twice-requires : goal.square_twice-requires
 square_twice-requires c =
     let d = c.double_times in
     let h = c.high_bit in
-    let n = c.args.n.now in (
-      operands n c.args.y.now d.new.t c.args.r c.requires.scratch (d.auto.t ∙ h.auto.t ∙ c.requires.result) c.requires.odd
-          (remainder_below _ (2 ^ (2 * length n + 16) * value h.new.t) _ d.ensures (omega (arith, c.requires.large))) c.requires.negative,
-      c.requires.odd,
-    )
+    let n = c.args.self.now.words.now in
+    record {
+      room = c.requires.scratch;
+      factor = d.auto.t ∙ h.auto.t ∙ c.requires.result;
+      below = remainder_below _ (2 ^ (2 * length n + 16) * value h.new.t) _ d.ensures (omega (arith, c.requires.large));
+    }
 
 pub square_twice-requires-2 : goal.square_twice-requires-2
 square_twice-requires-2 c =
     let t = c.square_twice in
-    let d = c.double_times in
-    let h = c.high_bit in (
-      operands c.args.n.now t.new.y t.new.x c.args.r (t.auto.y ∙ c.requires.scratch)
-          (t.auto.x ∙ d.auto.t ∙ h.auto.t ∙ c.requires.result) c.requires.odd t.ensures.0 c.requires.negative,
-      c.requires.odd,
-    )
+    record { room = t.auto.y ∙ c.requires.scratch; factor = t.auto.x ∙ c.double_times.auto.t ∙ c.high_bit.auto.t ∙ c.requires.result; below = t.ensures.0 }
 
 pub returns : goal.returns
 returns c =
-    let n = c.args.n.now in
+    let n = c.args.self.now.words.now in
     let e : power (length c.args.x.now) ≡ radix n = ap power c.requires.result in
     let t = c.square_twice in
     let u = c.square_twice-2 in

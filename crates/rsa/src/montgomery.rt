@@ -99,13 +99,15 @@ impl<'a> Modulus<'a> {
         requires { Operands t.old b.now self.now.words.now × (length a.now ≡ length self.now.words.now) }
         ensures { Product self.now.words.now t.new a.now b.now }
     {
+        // a copy, whose fields are not read again after each write to t
+        let n = *self;
         t.fill(0);
         let mut top: u32 = 0;
         for x in a {
-            let next = self.step(t, top, *x, b);
+            let next = n.step(t, top, *x, b);
             top = next;
         }
-        self.reduce(t, top);
+        n.reduce(t, top);
     }
 
     // Two squares: of x = R * u modulo n it makes R * u^4 modulo n. The words y are scratch.

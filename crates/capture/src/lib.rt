@@ -108,7 +108,7 @@ fn lengths_at(s: &[u8]) -> usize
     }
 }
 
-// Where the parts begin, and where the last ends.
+// Where the parts begin, and where the last ends: offsets, as specs/Capture.antt says them (`offsets_from`).
 #[derive(Clone, Copy)]
 pub struct Offsets {
     pub window: usize,

@@ -1,4 +1,5 @@
-// Answers for the capture on standard input: one line for a refusal; for a permission a line with its counts, and a line for each page.
+// Answers for the capture on standard input: one line for a refusal; for a permission a line with its counts, and a line for each page. Input, pages and
+// text have fixed buffers, of the sizes that the library says.
 #![tactic(auto)]
 
 use std::io;

@@ -1,6 +1,6 @@
 // What the reader of policy files answers: a string, a list, a part, an element; and what is taken from such an answer, sizes and bytes.
 //
-// Parts are offsets and lengths in the file. No public function asks anything of its caller: any answer, made by the reader or not, and any string.
+// Parts are offsets and lengths in the file: C takes them so, and `Demand3` looks at each through the string. No public function asks anything of its caller: any answer, made by the reader or not, and any string.
 #![tactic(auto)]
 
 mod parts;

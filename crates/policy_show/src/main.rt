@@ -9,7 +9,7 @@ use std::io;
 use std::io::{Input, Read};
 use std::rt::{Env, Files};
 
-// One byte more than the longest policy file.
+// One byte more than the longest policy file, of which the program needs no more: a fixed buffer tells it from a longer input.
 const SPACE: usize = policy_reader::LARGEST_FILE + 1;
 
 // Says on standard error what could not be read, and why.

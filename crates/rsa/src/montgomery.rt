@@ -35,6 +35,7 @@ pub(crate) struct Modulus<'a> {
     ghost negative: { (get_or words.now 0 0 * inverse + 1) % 2 ^ 32 ≡ 0 },
 }
 
+// That a number which is lent has as many words as the modulus is asked where it is lent: it ties the two, and is neither's own.
 impl<'a> Modulus<'a> {
     pub(crate) fn new(words: &'a [u32]) -> Modulus<'a>
         requires { value words.now % 2 ≡ 1 }

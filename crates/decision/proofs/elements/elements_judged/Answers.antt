@@ -4,11 +4,8 @@ use mathlib.Core.Path.{refl, ◌∙◌}
 use native.Mathlib.Omega.{arith}
 use Rattle.policy_reader.proofs.Standing as kinds
 use Rattle.policy_reader.proofs.Walk.{front, onward, ended}
-use Rattle.decision.proofs.Judging.{judging_start, judging_end, fits, unjudged, judging_step}
+use Rattle.decision.proofs.Judging.{judging_end, unjudged, judging_step}
 use Rattle.decision.proofs.elements.elements_judged.Goals as goal
-
-pub loop-at-init : goal.loop-at-init
-loop-at-init c = λ es h. record { rest = es; valid = h.valid; stand = h.stand; kept = judging_start _ es }
 
 pub returns-in_default : goal.returns-in_default
 returns-in_default c = λ es stand.
@@ -19,17 +16,6 @@ pub returns-then-not-judged : goal.returns-then-not-judged
 returns-then-not-judged c = λ es stand.
     let t = front kinds.element _ _ _ (c.loop-at.invariant es stand) _ c.loop-at-test.true c.in-Some.ensures.0 in
     unjudged _ _ _ _ _ _ _ t _ c.judged.ensures c.if-not-judged.true
-
-pub names-named-requires : goal.names-named-requires
-names-named-requires c =
-    let p = c.requires in
-    fits _ _ _ (front kinds.element _ _ _ (c.loop-at.invariant p.0 p.1) _ c.loop-at-test.true c.in-Some.ensures.0)
-
-pub overflow_add-at : goal.overflow_add-at
-overflow_add-at c =
-    let p = c.requires in
-    let t = front kinds.element _ _ _ (c.loop-at.invariant p.0 p.1) _ c.loop-at-test.true c.in-Some.ensures.0 in
-    omega (arith, t.within)
 
 pub loop-at-smaller : goal.loop-at-smaller
 loop-at-smaller c =

@@ -1,10 +1,7 @@
 -- `named` meets its contract. The invariant: the digest is one of all exactly where it is one of those that are left.
-use Rattle.decision.proofs.Digests.{named_start, first_is, first_is_not, none_left}
+use Rattle.decision.proofs.Digests.{first_is, first_is_not, none_left}
 use borrow.Author.Rules.{rules}
 use Rattle.decision.proofs.elements.named.Goals as goal
-
-pub loop-k-init : goal.loop-k-init
-loop-k-init c = named_start _ _ _ _
 
 pub returns-then-marked : goal.returns-then-marked
 returns-then-marked c = search (rules, first_is)

@@ -4,32 +4,18 @@ use mathlib.Core.Path.{refl}
 use native.Mathlib.Omega.{arith}
 use Rattle.policy_reader.proofs.Standing as kinds
 use Rattle.policy_reader.proofs.Walk.{front, onward, ended}
-use Rattle.decision.proofs.Judging.{naming_start, naming_end, fits, this_names, this_does_not_name}
+use Rattle.decision.proofs.Judging.{naming_end, this_names, this_does_not_name}
 use Rattle.decision.proofs.elements.stm_named.Goals as goal
-
-pub loop-at-init : goal.loop-at-init
-loop-at-init c = λ es h. record { rest = es; valid = h.valid; stand = h.stand; kept = naming_start _ es }
 
 pub returns-in_default : goal.returns-in_default
 returns-in_default c = λ es stand.
     let t = front kinds.element _ _ _ (c.loop-at.invariant es stand) _ c.loop-at-test.true c.in_default.ensures.0 in
     absurd (omega (arith, t.positive))
 
-pub names_stm-requires : goal.names_stm-requires
-names_stm-requires c =
-    let p = c.requires in
-    fits _ _ _ (front kinds.element _ _ _ (c.loop-at.invariant p.0 p.1) _ c.loop-at-test.true c.in-Some.ensures.0)
-
 pub returns-then-names_stm : goal.returns-then-names_stm
 returns-then-names_stm c = λ es stand.
     let t = front kinds.element _ _ _ (c.loop-at.invariant es stand) _ c.loop-at-test.true c.in-Some.ensures.0 in
     this_names _ _ _ _ _ t _ c.names_stm.ensures c.if-names_stm.true
-
-pub overflow_add-at : goal.overflow_add-at
-overflow_add-at c =
-    let p = c.requires in
-    let t = front kinds.element _ _ _ (c.loop-at.invariant p.0 p.1) _ c.loop-at-test.true c.in-Some.ensures.0 in
-    omega (arith, t.within)
 
 pub loop-at-smaller : goal.loop-at-smaller
 loop-at-smaller c =

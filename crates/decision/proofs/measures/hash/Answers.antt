@@ -13,12 +13,6 @@ loop-at-init c =
     let w = starts _ c.type_inv.file c.requires in
     record { rest = lists_of _; valid = w.valid; stand = w.stand; kept = hashing_start _ _ c.start-state.ensures }
 
-pub overflow_add-at : goal.overflow_add-at
-overflow_add-at c =
-    let l = c.loop-at in
-    let t = front kinds.list _ _ _ l.invariant _ c.loop-at-test.true c.list_at-l.ensures.0 in
-    omega (arith, t.within, c.list_size-at.ensures)
-
 pub loop-at-smaller : goal.loop-at-smaller
 loop-at-smaller c =
     let l = c.loop-at in

@@ -8,7 +8,7 @@ ghost use Rattle.answer.specs.Answer as spec;
 use rules::Refusal;
 
 // The number, how many pages were written, the list that permits, the offset of the first field at fault in the policy file on 27, else 0, and the
-// digest of the pages.
+// digest of the pages. The number, and 255 where no list permits, are of the C interface and of demand 1; `Refusal` and `Option` stand for them within.
 #[derive(Clone, Copy)]
 pub struct Answer {
     pub number: u32,

@@ -38,7 +38,8 @@ fn ended<R: Read>(input: &mut R) -> bool
     matches!(input.read(&mut next), Ok(0))
 }
 
-// How many bytes at the front of the buffer are the whole input; 0, and so no capture, where the input was not read to its end.
+// How many bytes at the front of the buffer are the whole input; 0, and so no capture, where the input was not read to its end. It answers for every
+// input, so that it is no Option: `whole` speaks of this number.
 pub fn read_whole<R: Read>(input: &mut R, buffer: &mut [u8]) -> usize
     ensures in_bounds { IsPrefixLen result buffer.new }
     ensures whole { 0 < result → IfSome (R.remaining input.old) (λ bytes. take result buffer.new ≡ bytes) }

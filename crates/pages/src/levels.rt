@@ -23,7 +23,7 @@ const DIRECTORIES: u64 = POINTERS * ENTRIES;
 
 // That a page or a table lies above what was found (`Above`) is asked where it is needed: it ties an address to the progress, and is no value's own.
 //
-// What the walk is given: the tables in the window, the ranges of memory that the rules name, and the reserved ranges as numbers.
+// What the walk is given: the tables in the window, the ranges of memory that the rules name, and the reserved ranges as numbers, as the C interface lends them.
 #[derive(Clone, Copy)]
 pub struct Walker<'a> {
     pub tables: Tables<'a>,

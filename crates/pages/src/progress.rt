@@ -40,7 +40,8 @@ impl Progress {
         }
     }
 
-    // Rule 19: the first page, or the one after the last.
+    // Rule 19: the first page, or the one after the last. That there was a page is `count`, which is answered anyway; an Option of the first would say it
+    // a second time.
     #[tactic(auto, unfolding(crate::specs::Rules::follows))]
     pub(crate) fn page_follows(self, l: u64) -> bool
         ensures { result ≡ follows self.first self.count l }

@@ -1,4 +1,4 @@
-// Sizes: of a list and of an element that are answered, and of a digest.
+// Sizes: of a list and of an element that are answered, and of a digest. Where there is none they are 0, which the laws of the grammar add up.
 ghost use Rattle.std.specs.Prelude.{◌≡◌, ◌≤◌};
 ghost use Rattle.policy_grammar.specs.Grammar.{digest_length};
 ghost use Rattle.policy_answers.specs.Answers.{element_size, list_size};

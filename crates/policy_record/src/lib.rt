@@ -30,6 +30,7 @@ const KNOWN_VERSION: u64 = 3;
 // The bit for SHA-256 in LcpHashAlgMask, 0x0008.
 const SHA256_BIT: u64 = 3;
 
+// The types of PolicyType, as the record and `record_of` have them; `PolicyType` is what a record that holds answers.
 const LIST: u64 = 0;
 
 const ANY: u64 = 1;

@@ -14,9 +14,7 @@ const SPACE: usize = policy_reader::LARGEST_FILE + 1;
 
 // Says on standard error what could not be read, and why.
 fn unread(errors: &impl Print, alloc: Global, name: &[u8], why: &io::Error) -> io::Result<()> {
-    let text = format!(in alloc; "{why}")?;
-    let line = capture_io::unread_line(alloc, name, text.as_bytes())?;
-    errors.write_all(&line)
+    errors.write_all(&capture_io::unread(alloc, name, why)?)
 }
 
 // The policy file that is read. A file that was not read to its end is not shown; one that fills the buffer is too long, whatever follows.

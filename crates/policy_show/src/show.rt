@@ -87,11 +87,12 @@ fn element(rt: &impl Print, s: &[u8], i: usize, j: usize, e: ElementAt) -> io::R
 // The elements of the list number i, which fill s from `start` on.
 fn elements_from(rt: &impl Print, s: &[u8], i: usize, start: usize) -> io::Result<()> {
     let mut at = start;
-    let mut j = 0;
-    while let Some(e) = policy_reader::element_at(s, at) {
+    for j in 0.. {
+        let Some(e) = policy_reader::element_at(s, at) else {
+            break;
+        };
         element(rt, s, i, j, e)?;
         at += e.size;
-        j += 1;
     }
     Ok(())
 }

@@ -17,7 +17,7 @@ const H0: [u32; 8] = [
 #[derive(Clone, Copy)]
 pub struct Running {
     pub words: [u32; 8],
-    // The bytes that wait stand at its front, as many as `total` says modulo 64.
+    // The bytes that wait stand at its front, as many as `total` says modulo 64; a Vec of them would need a heap.
     pub block: [u8; 64],
     // The message's length so far in bytes, modulo 2^64.
     pub total: u64,

@@ -65,7 +65,7 @@ fn gdt_limit(acm: &[u8]) -> u64
     number_or_zero(acm, 40, 4)
 }
 
-// The row of a version, or the first where no row has it.
+// The row of a version, or the first where no row has it, as `row_of` says; an Option would be undone at its one caller.
 fn row_of(version: u64) -> Edition
     ensures { result ≡ row_of version first editions }
 {

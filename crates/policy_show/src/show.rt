@@ -87,7 +87,8 @@ fn element(rt: &impl Print, s: &[u8], i: usize, j: usize, e: ElementAt) -> io::R
 // The elements of the list number i, which fill s from `start` on.
 fn elements_from(rt: &impl Print, s: &[u8], i: usize, start: usize) -> io::Result<()> {
     let mut at = start;
-    for j in 0.. {
+    // There are no more elements than bytes.
+    for j in 0..s.len() {
         let Some(e) = policy_reader::element_at(s, at) else {
             break;
         };

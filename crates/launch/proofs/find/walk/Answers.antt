@@ -10,4 +10,3 @@ slice_bounds-numbers-end c = search (rules, numbers_within)
 
 pub slice_bounds-walk-end : goal.slice_bounds-walk-end
 slice_bounds-walk-end c = sym (length-take-le _ _ (search (rules, numbers_within)))
-

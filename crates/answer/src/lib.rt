@@ -2,13 +2,10 @@
 #![tactic(auto)]
 
 ghost use Rattle.std.specs.Prelude.{◌≡◌};
-ghost use Rattle.rules.specs.Refusal.{number, place};
 ghost use Rattle.answer.specs.Answer as spec;
 
-use rules::Refusal;
-
 // The number, how many pages were written, the list that permits, the offset of the first field at fault in the policy file on 27, else 0, and the
-// digest of the pages. The number, and 255 where no list permits, are of the C interface and of demand 1; `Refusal` and `Option` stand for them within.
+// digest of the pages. The number, and 255 where no list permits, are of the C interface and of demand 1; `Refusal` of `rules` and `Option` stand for them within.
 #[derive(Clone, Copy)]
 pub struct Answer {
     pub number: u32,
@@ -31,13 +28,5 @@ pub fn refused(number: u32, place: u32) -> Answer
         list: NO_LIST,
         place,
         digest: [0u8; 32],
-    }
-}
-
-impl From<Refusal> for Answer {
-    ghost from_gives = { λ r a. a ≡ spec.refused (number r) (place r) };
-
-    fn from(refusal: Refusal) -> Answer {
-        refused(refusal.number(), refusal.place())
     }
 }

@@ -23,9 +23,10 @@ pub(crate) struct FileLists<'a> {
 }
 
 impl<'a> FileLists<'a> {
-    // The digest of the STM image.
+    // The digest of the STM image, which is known afterwards.
     fn stm_digest(&mut self) -> [u8; 32]
         ensures digest { result ≡ sha256 self.old.criteria.stm.now }
+        ensures kept { self.new.stm_digest ≡ Some result }
         ensures file { self.new.file ≡ self.old.file }
         ensures criteria { self.new.criteria ≡ self.old.criteria }
     {

@@ -35,6 +35,7 @@ fn body(t: &[u8], kind: usize) -> ElementBody
 }
 
 // The element at the front of t, which stands at `start`.
+#[inline(always)]
 fn first_element(t: &[u8], start: usize) -> Option<ElementAt>
     ensures { result ≡ element_shown start (value_of (Decode.element t.now)) }
 {
@@ -47,7 +48,9 @@ fn first_element(t: &[u8], start: usize) -> Option<ElementAt>
     })
 }
 
-// The element that stands at `at` in s.
+// The element that stands at `at` in s. It is put into its callers, as are the functions of a list: an answer goes through memory at a call, and then a
+// walk over elements of 12 bytes takes twice as long.
+#[inline(always)]
 pub fn element_at(s: &[u8], at: usize) -> Option<ElementAt>
     ensures { (result ≡ element_shown at (value_of (Decode.element (drop at s.now)))) × ElementAtExactly s.now at result }
 {
@@ -55,6 +58,7 @@ pub fn element_at(s: &[u8], at: usize) -> Option<ElementAt>
 }
 
 // The list at the front of t, which stands at `start`.
+#[inline(always)]
 fn first_list(t: &[u8], start: usize) -> Option<ListAt>
     requires { start + length t.now < 2 ^ 64 }
     ensures { result ≡ list_shown start (value_of (Decode.list t.now)) }
@@ -88,6 +92,7 @@ fn first_list(t: &[u8], start: usize) -> Option<ListAt>
 }
 
 // The list that stands at `at` in s.
+#[inline(always)]
 pub fn list_at(s: &[u8], at: usize) -> Option<ListAt>
     ensures { (result ≡ list_shown at (value_of (Decode.list (drop at s.now)))) × ListAtExactly s.now at result }
 {

@@ -50,6 +50,7 @@ fn known_algorithm(algorithm: usize) -> bool
 }
 
 // The list at the front of t.
+#[inline(always)]
 fn first_extent(t: &[u8]) -> Result<usize, Fault>
     ensures { result ≡ extent_of (read Layout.list t.now) }
 {
@@ -73,6 +74,7 @@ fn first_extent(t: &[u8]) -> Result<usize, Fault>
 }
 
 // The list that stands at `at` in t.
+#[inline(always)]
 pub(crate) fn list_extent(t: &[u8], at: usize) -> Result<usize, Fault>
     requires { at ≤ length t.now }
     ensures { result ≡ extent_of (read Layout.list (drop at t.now)) }

@@ -1,6 +1,9 @@
 // What the check refuses, by the rule that fails, and the number of each rule. The numbers stand here and nowhere else in the code.
 ghost use Rattle.std.specs.Prelude.{◌≡◌};
+ghost use Rattle.answer.specs.Answer as answer_spec;
 ghost use Rattle.rules.specs.Refusal as spec;
+
+use answer::{Answer, refused};
 
 // The rule that fails first. Where the policy file is not of the grammar, the place is the offset of the first field at fault.
 #[derive(Clone, Copy, PartialEq, Eq)]
@@ -90,5 +93,14 @@ impl Refusal {
             Refusal::PolicyGrammar { place } => place,
             _ => 0,
         }
+    }
+}
+
+// The conversion stands here, so that `answer` has no crate below it and the text of an answer depends on no rule.
+impl From<Refusal> for Answer {
+    ghost from_gives = { λ r a. a ≡ answer_spec.refused (spec.number r) (spec.place r) };
+
+    fn from(refusal: Refusal) -> Answer {
+        refused(refusal.number(), refusal.place())
     }
 }

@@ -1,4 +1,5 @@
-// What the check refuses, by the rule that fails, and the number of each rule. The numbers stand here and nowhere else in the code.
+// What the check refuses, by the rule that fails: the number of each rule, the place that goes with 27, and the answer. 26 and 27 stand a second time
+// where C and the programs show them.
 ghost use Rattle.std.specs.Prelude.{◌≡◌};
 ghost use Rattle.answer.specs.Answer as answer_spec;
 ghost use Rattle.rules.specs.Refusal as spec;
